@@ -1,0 +1,84 @@
+-- What a phase keeps and a word is bounded by: `fract` and `rem_euclid(1.0)` lie from 0 to 1, `to24` within ±8388607. Assumes nothing.
+use mathlib.Core.Path.{_≡_, refl, sym, ap, _∙_, subst}
+use mathlib.Core.Bool.{Bool, true, false}
+use Prim.Native.Nat.{ℕ, zero, suc, _+_, _*_, _%_, _^_, _≤_, _<_}
+use native.Mathlib.Nat.{mul-pos, zero-mul, zero-mod, lt-irrefl, zero-lt-suc}
+use native.Mathlib.Omega.{arith}
+use lib.IntN.{ℤ, pos, natAbs}
+use lib.Dec.{T, lit≤}
+use lib.Pow.{pow-pos}
+use lib.Ieee.{Float, binary32, nan, inf, fin, low, up, down, round, neg, add, mul, rem, lt, le, eq, fits, ofBits, toSigned}
+use lib.Ieee.Fits.{add-fits, rem-fits, down-pos, up-pos}
+use lib.Ieee.Scale.{round-same}
+use Rattle.line.proofs.Rounds.{sign}
+use Rattle.line.proofs.Mono.{Good, good-is, units-of, le→under}
+use Rattle.line.proofs.Range.{In, in-add, in-mul, in-self, in-cond, cut-high, cut-low, lt→le, not-lt}
+use Rattle.line.proofs.Rem.{Part, one, nought, nought-is, nought-in, rem-is, rem-part, part-unit, part-both, part-lt, part-plus}
+use Rattle.line.proofs.Whole.{cut-within}
+use Rattle.float.specs.Consts.{k0, k1, k8388607}
+use Rattle.float.specs.Floats.{absOf, clampOf, fractOf, remEuclidOf, to24Of}
+use Rattle.float.proofs.Eval.{in-clamp}
+
+-- ---- fract
+fract-part : (x : Float) → Good binary32 x → sign x ≡ false → Part binary32 (fractOf x) false
+unfolding fractOf ofBits
+fract-part x g e = part-plus binary32 (rem binary32 x one) (subst (λ (s : Bool). Part binary32 (rem binary32 x one) s) e (rem-part binary32 x g))
+
+fract-fits : (x : Float) → T (fits binary32 (fractOf x))
+unfolding fractOf
+fract-fits x = add-fits binary32 (rem binary32 x k1) k0
+
+-- of a zero with a sign
+fract-zero : (m : ℕ) (e : ℤ) → m ≡ 0 → fractOf (fin true m e) ≡ nought
+unfolding fractOf ofBits
+fract-zero m e z =
+    ap (λ (k : ℕ). add binary32 (rem binary32 (fin true k e) one) nought) z
+    ∙ ap (λ (y : Float). add binary32 y nought) (rem-is binary32 true 0 e ∙ ap (λ (k : ℕ). round binary32 true (k % down e) (down e)) (zero-mul (up e)) ∙ ap (λ (k : ℕ). round binary32 true k (down e)) (zero-mod (down e))
+    ∙ round-same binary32 true 0 (down e) 0 1 (down-pos e) (pow-pos 0) (zero-mul 1 ∙ sym (zero-mul (down e))))
+    ∙ cleared
+  where
+    cleared : add binary32 (round binary32 true 0 1) nought ≡ nought
+    cleared = unfold round add in refl
+
+none-left : (m u l : ℕ) → 0 < u → 0 < l → m * u * l ≡ 0 → m ≡ 0
+none-left zero u l h k e = refl
+none-left (suc m) u l h k e = absurd (lt-irrefl 0 (subst (λ (z : ℕ). 0 < z) e (mul-pos (mul-pos (zero-lt-suc m) h) k)))
+
+no-size : (q : ℕ) → 0 + q ≡ 0 → q ≡ 0
+no-size q h = omega arith
+
+-- of what is not below zero: from 0 to 1, both zeros taken
+pub fract-in : (hi x : Float) → In binary32 nought hi x → In binary32 nought one (fractOf x)
+fract-in hi nan h = absurd (h .ok .1)
+fract-in hi (inf s) h = absurd (h .ok .1)
+fract-in hi (fin false m e) h = part-unit binary32 (fractOf (fin false m e)) (fract-fits (fin false m e)) (fract-part (fin false m e) (h .ok) refl)
+fract-in hi (fin true m e) h =
+    let k = good-is binary32 (fin true m e) (h .ok) in
+    let z = no-size (units-of binary32 (fin true m e) (h .ok)) (le→under binary32 nought (fin true m e) false 0 true (units-of binary32 (fin true m e) (h .ok)) (nought-is binary32) k (h .from)) in
+    subst (λ (y : Float). In binary32 nought one y) (sym (fract-zero m e (none-left m (up e) (2 ^ low binary32) (up-pos e) (pow-pos (low binary32)) (k .1 ∙ ap (λ (q : ℕ). q * down e) z ∙ zero-mul (down e))))) (nought-in binary32)
+
+-- and below 1
+pub fract-below : (x : Float) → Good binary32 x → sign x ≡ false → T (lt (fractOf x) one)
+fract-below x g e = part-lt binary32 (fractOf x) (fract-part x g e)
+
+-- ---- rem_euclid by 1: 1 itself can be reached
+pub rem-euclid-in : (x : Float) → Good binary32 x → In binary32 nought one (remEuclidOf x k1)
+unfolding remEuclidOf absOf ofBits fits
+rem-euclid-in x g =
+    let r = part-both binary32 (rem binary32 x one) (sign x) (rem-fits binary32 x one (g .0)) (rem-part binary32 x g) in
+    in-cond binary32 nought one (lt (rem binary32 x one) nought)
+    (λ t. up-one (rem binary32 x one) (cut-high r nought tt (lt→le (rem binary32 x one) nought t)))
+    (λ t. cut-low r nought tt (not-lt binary32 nought (rem binary32 x one) (tt, tt) (r .ok) t))
+  where
+    up-one : (y : Float) → In binary32 (fin true 1 (pos 0)) nought y → In binary32 nought one (add binary32 y one)
+    up-one y h = unfold fits add le lt eq in in-add binary32 nought one h (in-self binary32 one tt) tt
+
+-- ---- a word
+pub word-in : (x : Float) → T (fits binary32 x) → natAbs (to24Of x) ≤ 8388607
+unfolding to24Of ofBits
+word-in nan f = unfold clampOf mul toSigned lt in lit≤ tt
+word-in (inf true) f = unfold clampOf mul toSigned lt neg in lit≤ tt
+word-in (inf false) f = unfold clampOf mul toSigned lt neg in lit≤ tt
+word-in (fin s m e) f = unfold fits mul neg le lt eq in
+    let h = in-mul binary32 (fin true 8388607 (pos 0)) (fin false 8388607 (pos 0)) (in-clamp binary32 (neg k1) k1 (fin s m e) (f, tt) (neg k1) k1 tt) (in-self binary32 k8388607 tt) tt in
+    cut-within 31 8388607 (mul binary32 (clampOf (fin s m e) (neg k1) k1) k8388607) (h .from) (h .upto)

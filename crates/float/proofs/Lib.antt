@@ -1,0 +1,5 @@
+-- Laws of `float`.
+pub mod Signs
+pub mod Cast
+pub mod Eval
+pub mod Laws

@@ -1,0 +1,3 @@
+-- The definitions that the contracts of `float` cite, and the program's constants.
+pub mod Consts
+pub mod Floats

@@ -1,0 +1,147 @@
+// Rust's functions on f32 as the source uses them, and its casts. Each gives what Rust gives for every argument.
+ghost use mathlib.Core.Path.{_≡_};
+ghost use mathlib.Core.Bool.{Bool, cond};
+ghost use Prim.Native.Nat.{_+_, _-_, _^_, min};
+ghost use lib.IntN.{pos};
+ghost use lib.Ieee.{binary32, ofInt, toSigned};
+ghost use lib.Ieee.Scale.{finite};
+ghost use Rattle.float.specs.Floats.{absOf, signumOf, minOf, maxOf, clampOf, fractOf, remEuclidOf, to24Of};
+
+pub fn abs(x: f32) -> f32
+    ensures { λ r. ⌜ r ≡ absOf x ⌝ }
+{
+    if x < 0.0 {
+        -x
+    } else if 0.0 < x {
+        x
+    } else if x == 0.0 {
+        0.0
+    } else {
+        x
+    }
+}
+
+// The sign of a zero is that of one over it.
+pub fn signum(x: f32) -> f32
+    ensures { λ r. ⌜ r ≡ signumOf x ⌝ }
+{
+    if x < 0.0 {
+        -1.0
+    } else if 0.0 < x {
+        1.0
+    } else if x != 0.0 {
+        x
+    } else if 1.0 / x < 0.0 {
+        -1.0
+    } else {
+        1.0
+    }
+}
+
+pub fn min(a: f32, b: f32) -> f32
+    ensures { λ r. ⌜ r ≡ minOf a b ⌝ }
+{
+    if b < a {
+        b
+    } else if a != a {
+        b
+    } else {
+        a
+    }
+}
+
+pub fn max(a: f32, b: f32) -> f32
+    ensures { λ r. ⌜ r ≡ maxOf a b ⌝ }
+{
+    if a < b {
+        b
+    } else if a != a {
+        b
+    } else {
+        a
+    }
+}
+
+pub fn clamp(x: f32, lo: f32, hi: f32) -> f32
+    ensures { λ r. ⌜ r ≡ clampOf x lo hi ⌝ }
+{
+    if x < lo {
+        lo
+    } else if hi < x {
+        hi
+    } else {
+        x
+    }
+}
+
+pub fn is_finite(x: f32) -> bool
+    ensures { λ r. ⌜ r ≡ finite x ⌝ }
+{
+    x - x == 0.0
+}
+
+pub fn fract(x: f32) -> f32
+    ensures { λ r. ⌜ r ≡ fractOf x ⌝ }
+{
+    x % 1.0 + 0.0
+}
+
+pub fn rem_euclid(x: f32, y: f32) -> f32
+    ensures { λ r. ⌜ r ≡ remEuclidOf x y ⌝ }
+{
+    let r = x % y;
+    if r < 0.0 { r + abs(y) } else { r }
+}
+
+// One of two values, without a branch in the caller.
+pub fn choose(c: bool, a: f32, b: f32) -> f32
+    ensures { λ r. ⌜ r ≡ cond c a b ⌝ }
+{
+    if c { a } else { b }
+}
+
+// `n as f32`, rounded to the nearest.
+pub fn from_u32(n: u32) -> f32
+    ensures { λ r. ⌜ r ≡ ofInt binary32 (pos n) ⌝ }
+{
+    std::num::nearest_u32_to_f32(n)
+}
+
+pub fn from_i32(n: i32) -> f32
+    ensures { λ r. ⌜ r ≡ ofInt binary32 n ⌝ }
+{
+    std::num::nearest_i32_to_f32(n)
+}
+
+// `y as i32`: toward zero, to the nearest end where it is out of range, 0 where it is no number.
+pub fn to_i32(y: f32) -> i32
+    ensures { λ r. ⌜ r ≡ toSigned 31 y ⌝ }
+{
+    if y < 2147483648.0 {
+        if -2147483648.0 <= y {
+            return std::num::truncating_f32_to_i64(y) as i32;
+        }
+        return -2147483648;
+    }
+    if y != y {
+        return 0;
+    }
+    2147483647
+}
+
+// A sample as a 24-bit word.
+pub fn to24(x: f32) -> i32
+    ensures { λ r. ⌜ r ≡ to24Of x ⌝ }
+{
+    to_i32(clamp(x, -1.0, 1.0) * 8388607.0)
+}
+
+pub fn saturating_add(a: u32, b: u32) -> u32
+    ensures { λ r. ⌜ r ≡ min (a + b) (2 ^ 32 - 1) ⌝ }
+{
+    if a <= 4294967295 - b {
+        a + b
+    } else {
+        4294967295
+    }
+}

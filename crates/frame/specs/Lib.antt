@@ -1,0 +1,3 @@
+-- The definitions that the contracts of `frame` cite.
+pub mod Offsets
+pub mod Frame

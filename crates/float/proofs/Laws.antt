@@ -1,22 +1,24 @@
 -- What a phase keeps and a word is bounded by: `fract` and `rem_euclid(1.0)` lie from 0 to 1, `to24` within ±8388607. Assumes nothing.
 use mathlib.Core.Path.{_≡_, refl, sym, ap, _∙_, subst}
-use mathlib.Core.Bool.{Bool, true, false}
+use mathlib.Core.Bool.{Bool, true, false, not}
 use Prim.Native.Nat.{ℕ, zero, suc, _+_, _*_, _%_, _^_, _≤_, _<_}
-use native.Mathlib.Nat.{mul-pos, zero-mul, zero-mod, lt-irrefl, zero-lt-suc}
+use native.Mathlib.Nat.{mul-pos, add-zero, sub-zero, le-of-lt, zero-mul, zero-mod, lt-irrefl, zero-lt-suc}
 use native.Mathlib.Omega.{arith}
 use lib.IntN.{ℤ, pos, natAbs}
-use lib.Dec.{T, lit≤}
+use lib.Dec.{T, lit<, lit≤}
 use lib.Pow.{pow-pos}
-use lib.Ieee.{Float, binary32, nan, inf, fin, low, up, down, round, neg, add, mul, rem, lt, le, eq, fits, ofBits, toSigned}
+use lib.Ieee.{Float, Format, binary32, nan, inf, fin, low, up, down, round, neg, sum, add, mul, rem, lt, le, eq, fits, ofBits, toSigned}
 use lib.Ieee.Fits.{add-fits, rem-fits, down-pos, up-pos}
 use lib.Ieee.Scale.{round-same}
+use borrow.Author.Tests.{lt-ltb, le-ltb}
+use Rattle.line.proofs.Units.{Is}
 use Rattle.line.proofs.Rounds.{sign}
 use Rattle.line.proofs.Mono.{Good, good-is, units-of, le→under}
 use Rattle.line.proofs.Range.{In, in-add, in-mul, in-self, in-cond, cut-high, cut-low, lt→le, not-lt}
 use Rattle.line.proofs.Rem.{Part, one, nought, nought-is, nought-in, rem-is, rem-part, part-unit, part-both, part-lt, part-plus}
 use Rattle.line.proofs.Whole.{cut-within}
 use Rattle.float.specs.Consts.{k0, k1, k8388607}
-use Rattle.float.specs.Floats.{absOf, clampOf, fractOf, remEuclidOf, to24Of}
+use Rattle.float.specs.Floats.{absOf, signumOf, clampOf, fractOf, remEuclidOf, to24Of}
 use Rattle.float.proofs.Eval.{in-clamp}
 
 -- ---- fract
@@ -82,3 +84,37 @@ word-in (inf false) f = unfold clampOf mul toSigned lt neg in lit≤ tt
 word-in (fin s m e) f = unfold fits mul neg le lt eq in
     let h = in-mul binary32 (fin true 8388607 (pos 0)) (fin false 8388607 (pos 0)) (in-clamp binary32 (neg k1) k1 (fin s m e) (f, tt) (neg k1) k1 tt) (in-self binary32 k8388607 tt) tt in
     cut-within 31 8388607 (mul binary32 (clampOf (fin s m e) (neg k1) k1) k8388607) (h .from) (h .upto)
+
+-- ---- abs and signum of a finite number
+pub abs-is : (f : Format) (x : Float) (s : Bool) (q : ℕ) → Is f x s q → Is f (absOf x) false q
+unfolding absOf
+abs-is f nan s q h = absurd h
+abs-is f (inf t) s q h = absurd h
+abs-is f (fin t m e) s q h = (refl, h .1)
+
+pub signum-is : (f : Format) (x : Float) (s : Bool) (q : ℕ) → Is f x s q → signumOf x ≡ fin s 1 (pos 0)
+unfolding signumOf
+signum-is f nan s q h = absurd h
+signum-is f (inf t) s q h = absurd h
+signum-is f (fin t m e) s q h = ap (λ (u : Bool). fin u 1 (pos 0)) (h .0)
+
+-- ---- the sign of a zero that is added is lost, but to -0
+abbrev minus-zero : Float → Bool
+minus-zero nan = false
+minus-zero (inf s) = false
+minus-zero (fin s zero e) = s
+minus-zero (fin s (suc m) e) = false
+
+pub either-zero : (w : Float) → T (not (minus-zero w)) → add binary32 w (fin true 0 (pos 0)) ≡ add binary32 w (fin false 0 (pos 0))
+unfolding add sum
+either-zero nan h = refl
+either-zero (inf s) h = refl
+either-zero (fin false m e) h = rw (zero-mul (down e), le-ltb (m * up e * 1) 0 (none (m * up e * 1)), sub-zero (m * up e * 1), add-zero (m * up e * 1))
+  where
+    none : (n : ℕ) → 0 ≤ n
+    none n = omega arith
+either-zero (fin true zero e) h = absurd h
+either-zero (fin true (suc m) e) h =
+    let a = suc m * up e * 1 in
+    let p : 0 < a = mul-pos (mul-pos (zero-lt-suc m) (up-pos e)) (lit< tt) in
+    rw (zero-mul (down e), le-ltb a 0 (le-of-lt p), lt-ltb 0 a p, sub-zero a, add-zero a)

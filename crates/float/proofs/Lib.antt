@@ -1,4 +1,5 @@
 -- Laws of `float`.
+pub mod Constants
 pub mod Signs
 pub mod Cast
 pub mod Eval

@@ -34,10 +34,8 @@ fractOf x = add binary32 (rem binary32 x k1) k0
 
 -- x less a whole multiple of y, not below zero but for the rounding: a tiny negative remainder plus y can round to y
 unfoldable pub remEuclidOf : Float → Float → Float
-unfolding absOf
 remEuclidOf x y = let r = rem binary32 x y in cond (lt r k0) (add binary32 r (absOf y)) r
 
 -- "To a word": clamped to ±1, times 8388607, cut toward zero; not a number gives 0
 unfoldable pub to24Of : Float → ℤ
-unfolding clampOf
 to24Of x = toSigned 31 (mul binary32 (clampOf x (neg k1) k1) k8388607)

@@ -1,0 +1,2 @@
+-- The statement.
+pub mod Cases

@@ -1,0 +1,6 @@
+-- Laws of `envelope`.
+pub mod Bytes
+pub mod Ranges
+pub mod Tick
+pub mod Arrive
+pub mod Run

@@ -1,0 +1,4 @@
+-- The definitions that the contracts of `envelope` cite, and what its laws speak of.
+pub mod Record
+pub mod Moves
+pub mod Levels

@@ -4,3 +4,4 @@ pub mod Ranges
 pub mod Tick
 pub mod Arrive
 pub mod Run
+pub mod Settle

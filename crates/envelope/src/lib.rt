@@ -6,6 +6,7 @@ ghost use Rattle.envelope.specs.Record.{levelOf, expOf, mantOf, modeOf, 
 ghost use Rattle.envelope.specs.Moves.{moveBy, settle, alike, dualOf, hitOf, keyOf, sameKey, segStarts, holdOf, segOf};
 
 // One 8-byte record. Its first word is a command: not zero starts the segment.
+#[repr(C)]
 pub struct Record {
     pub start_cmd: bool,
     pub start: f32,
@@ -64,6 +65,7 @@ impl Record {
 }
 
 // An envelope segment playing toward its target.
+#[repr(C)]
 pub struct Env {
     pub level: f32,
 }
@@ -142,6 +144,7 @@ pub fn mode_of(r: [u8; 8]) -> u8
 }
 
 // What a chain's envelope compares a record by: its levels and its rate.
+#[repr(C)]
 pub struct Key {
     pub start: u8,
     pub target: u8,
@@ -185,6 +188,7 @@ fn hold_of(mode: u8, rate: u32, d: f32, was: bool) -> bool
 }
 
 // A chain's envelope.
+#[repr(C)]
 pub struct SegEnv {
     pub key: Key,
     pub level: f32,

@@ -12,10 +12,10 @@ use lib.Ieee.Fits.{add-fits, rem-fits, down-pos, up-pos}
 use lib.Ieee.Scale.{round-same}
 use borrow.Author.Tests.{lt-ltb, le-ltb}
 use Rattle.line.proofs.Units.{Is}
-use Rattle.line.proofs.Rounds.{sign}
-use Rattle.line.proofs.Mono.{Good, good-is, units-of, le→under}
+use Rattle.line.proofs.Rounds.{sign, has-finite}
+use Rattle.line.proofs.Mono.{Good, good-is, units-of, le→under, under→le, neg-le}
 use Rattle.line.proofs.Range.{In, in-add, in-mul, in-self, in-cond, cut-high, cut-low, lt→le, not-lt}
-use Rattle.line.proofs.Rem.{Part, one, nought, nought-is, nought-in, rem-is, rem-part, part-unit, part-both, part-lt, part-plus}
+use Rattle.line.proofs.Rem.{Part, one, nought, nought-is, nought-good, nought-in, rem-is, rem-part, part-unit, part-both, part-lt, part-plus}
 use Rattle.line.proofs.Whole.{cut-within}
 use Rattle.float.specs.Consts.{k0, k1, k8388607}
 use Rattle.float.specs.Floats.{absOf, signumOf, clampOf, fractOf, remEuclidOf, to24Of}
@@ -118,3 +118,42 @@ either-zero (fin true (suc m) e) h =
     let a = suc m * up e * 1 in
     let p : 0 < a = mul-pos (mul-pos (zero-lt-suc m) (up-pos e)) (lit< tt) in
     rw (zero-mul (down e), le-ltb a 0 (le-of-lt p), lt-ltb 0 a p, sub-zero a, add-zero a)
+
+-- ---- the size of what lies from -hi to hi
+neg-neg : (x : Float) → neg (neg x) ≡ x
+unfolding neg
+neg-neg nan = refl
+neg-neg (inf true) = refl
+neg-neg (inf false) = refl
+neg-neg (fin true m e) = refl
+neg-neg (fin false m e) = refl
+
+pub abs-in : (hi x : Float) → In binary32 (neg hi) hi x → In binary32 nought hi (absOf x)
+abs-in hi nan h = absurd (h .ok .1)
+abs-in hi (inf s) h = absurd (h .ok .1)
+abs-in hi (fin s m e) h =
+    let x = fin s m e in
+    let q = units-of binary32 x (h .ok) in
+    let i = good-is binary32 x (h .ok) in
+    let a = abs-is binary32 x s q i in
+    record {
+      low = nought-good binary32;
+      high = h .high;
+      ok = (abs-fits s (h .ok .0), has-finite (absOf x) false q (2 ^ low binary32) a);
+      from = under→le binary32 nought (absOf x) false 0 false q (nought-is binary32) a (none q);
+      upto = by s h;
+    }
+  where
+    none : (n : ℕ) → 0 ≤ n
+    none n = omega arith
+
+    abs-fits : (s : Bool) → T (fits binary32 (fin s m e)) → T (fits binary32 (absOf (fin s m e)))
+    abs-fits s t = unfold absOf in same m t
+      where
+        same : (m : ℕ) → T (fits binary32 (fin s m e)) → T (fits binary32 (fin false m e))
+        same zero t = unfold fits in t
+        same (suc m) t = unfold fits in t
+
+    by : (s : Bool) → In binary32 (neg hi) hi (fin s m e) → T (le (absOf (fin s m e)) hi)
+    by false k = unfold absOf in k .upto
+    by true k = unfold absOf neg in subst (λ (z : Float). T (le (fin false m e) z)) (neg-neg hi) (neg-le binary32 (neg hi) (fin true m e) (k .low) (k .ok) (k .from))

@@ -1,3 +1,4 @@
 -- Laws of `frame`.
 pub mod Joined
 pub mod Tables
+pub mod Sizes

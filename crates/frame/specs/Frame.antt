@@ -38,7 +38,7 @@ abbrev pub fieldAt : List ℕ → ℕ → ℕ
 fieldAt f o = getD f (o + 1) 0 % 64 * 65536 + getD f (o + 2) 0 * 256 + getD f (o + 3) 0
 
 -- a record: eight bytes
-abbrev pub bytesAt : List ℕ → ℕ → List ℕ
+unfoldable pub bytesAt : List ℕ → ℕ → List ℕ
 bytesAt f o =
     getD f o 0 ∷ getD f (o + 1) 0 ∷ getD f (o + 2) 0 ∷ getD f (o + 3) 0 ∷ getD f (o + 4) 0 ∷ getD f (o + 5) 0 ∷ getD f (o + 6) 0 ∷ getD f (o + 7) 0 ∷ []
 

@@ -96,7 +96,7 @@ whole-good binary32 true = tt
 whole-good binary64 false = tt
 whole-good binary64 true = tt
 
-nought-good : (f : Format) → Good f nought
+pub nought-good : (f : Format) → Good f nought
 nought-good f = good-of f nought (and-l (good f nought) (good f one) (whole-good f false))
 
 unit-good : (f : Format) (s : Bool) → Good f (fin s 1 (pos 0))

@@ -1,0 +1,6 @@
+pub mod Fields
+pub mod Shifts
+pub mod Placed
+pub mod Packs
+pub mod Powers
+pub mod Order

@@ -1,0 +1,5 @@
+pub mod Method
+pub mod Rounding
+pub mod Curve
+pub mod Fields
+pub mod Distance

@@ -1,0 +1,3 @@
+pub mod Exact
+pub mod Log10
+pub mod Near

@@ -1,0 +1,13 @@
+pub mod TwoPower
+pub mod Moves
+pub mod Signs
+pub mod Table
+pub mod Method
+pub mod Rounding
+pub mod Reduction
+pub mod Whole
+pub mod Curves
+pub mod Ranges
+pub mod Mono
+pub mod Order
+pub mod Laws

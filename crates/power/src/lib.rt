@@ -1,0 +1,139 @@
+// The two-power, the exponential and the power of ten, by one core in fixed point. Qk is a whole number that stands for itself over 2^k.
+ghost use mathlib.Core.Path.{_≡_};
+ghost use Prim.Native.Nat.{_+_, _*_, _/_, _<_, _≤_};
+ghost use lib.ListN.{getD};
+ghost use Rattle.power.specs.Power.{roots, fractionOf, powerOf, productOf, exp2Of, expOf, pow10Of};
+ghost use Rattle.power.specs.Near.{Exp2Near, ExpNear, Pow10Near};
+
+// 2^(i / 32) in Q30
+const ROOTS: [u64; 32] = [
+    1073741824,
+    1097253708,
+    1121280435,
+    1145833280,
+    1170923761,
+    1196563653,
+    1222764985,
+    1249540052,
+    1276901416,
+    1304861916,
+    1333434672,
+    1362633089,
+    1392470868,
+    1422962010,
+    1454120821,
+    1485961920,
+    1518500249,
+    1551751075,
+    1585729999,
+    1620452965,
+    1655936264,
+    1692196547,
+    1729250826,
+    1767116488,
+    1805811301,
+    1845353419,
+    1885761398,
+    1927054195,
+    1969251187,
+    2012372173,
+    2056437386,
+    2101467501,
+];
+
+// log2 e and log2 10 in Q32
+pub const LOG2_E: u64 = 6196328018;
+
+pub const LOG2_TEN: u64 = 14267572527;
+
+fn root(i: usize) -> u64
+    requires { ⌜ i < 32 ⌝ }
+    ensures { λ r. ⌜ (r ≡ getD roots i 0) × (r ≤ 2101467501) ⌝ }
+{
+    ROOTS[i]
+}
+
+// one step of Horner's rule in Q32
+fn step(b: u64, y: u64, k: u64) -> u64
+    requires { ⌜ (b ≤ 4294967296) × (y < 4294967296) × (k < 4294967296) ⌝ }
+    ensures { λ r. ⌜ (r ≡ b + y * k / 4294967296) × (r ≤ b + y) ⌝ }
+{
+    b + y * k / 4294967296
+}
+
+// 2^h in Q32, for an h of Q32 below 1
+pub fn fraction(h: u64) -> u64
+    requires { ⌜ h < 4294967296 ⌝ }
+    ensures { λ r. ⌜ (r ≡ fractionOf h) × (4294967296 ≤ r) × (r ≤ 8589934592) ⌝ }
+{
+    let i = (h / 134217728) as usize;
+    let k = h % 134217728 * 32; // Q32
+    let y2 = step(1007582, 7275, k);
+    let y1 = step(93032639, y2, k);
+    let y = step(4294967296, y1, k); // Q32
+    y * root(i) / 1073741824
+}
+
+// 2^(w - 128), for a w of Q32
+pub fn power(w: u64) -> f32
+    requires { ⌜ (8589934592 ≤ w) × (w < 1095216660480) ⌝ }
+    ensures { λ r. ⌜ r ≡ powerOf w ⌝ }
+{
+    let y = fraction(w % 4294967296); // Q32
+    let s = f32::from_bits((1056964608 + (y + 256) / 512) as u32);
+    s * fixed::two_to(w / 4294967296 - 1)
+}
+
+// v * k of Q32, both of Q32, in two parts so that no product passes 64 bits
+pub fn product(v: u64, k: u64) -> u64
+    requires { ⌜ (v ≤ 1099511627776) × (k < 17179869184) ⌝ }
+    ensures { λ r. ⌜ r ≡ productOf v k ⌝ }
+{
+    (v / 65536 * k + v % 65536 * k / 65536) / 65536
+}
+
+pub fn exp2(t: f32) -> f32
+    ensures is { λ r. ⌜ r ≡ exp2Of t ⌝ }
+    ensures near { λ r. ⌜ Exp2Near t r ⌝ }
+{
+    if t != t {
+        return t;
+    }
+    if t < -126.0 {
+        return 0.0;
+    }
+    if t >= 127.0 {
+        return 1.0 / 0.0;
+    }
+    power(fixed::spot(t))
+}
+
+pub fn exp(t: f32) -> f32
+    ensures is { λ r. ⌜ r ≡ expOf t ⌝ }
+    ensures near { λ r. ⌜ ExpNear t r ⌝ }
+{
+    if (t >= -3.0) & (t <= 0.0) {
+        return power(549755813888 - product(fixed::size(t), LOG2_E));
+    }
+    0.0 / 0.0
+}
+
+pub fn pow10(t: f32) -> f32
+    ensures is { λ r. ⌜ r ≡ pow10Of t ⌝ }
+    ensures near { λ r. ⌜ Pow10Near t r ⌝ }
+{
+    if t != t {
+        return t;
+    }
+    if t < -37.0 {
+        return 0.0;
+    }
+    if t > 37.0 {
+        return 1.0 / 0.0;
+    }
+    let u = product(fixed::size(t), LOG2_TEN); // Q32
+    if t < 0.0 {
+        return power(549755813888 - u);
+    }
+    power(549755813888 + u)
+}

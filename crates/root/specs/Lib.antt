@@ -1,0 +1,2 @@
+-- What the square root's contract cites. Assumes nothing.
+pub mod Root

@@ -1,0 +1,9 @@
+pub mod Algebra
+pub mod Exponential
+pub mod Horner
+pub mod Polynomial
+pub mod Sums
+pub mod Addition
+pub mod Tail
+pub mod Alternating
+pub mod Nearness

@@ -1,0 +1,4 @@
+pub mod Exponential
+pub mod Horner
+pub mod Alternating
+pub mod Near

@@ -1,0 +1,12 @@
+-- The laws of sin, cos and tan. Assumes nothing.
+pub mod Nested
+pub mod Turn
+pub mod Method
+pub mod Rounding
+pub mod Small
+pub mod Cases
+pub mod Quotient
+pub mod Tangent
+pub mod Fields
+pub mod Bound
+pub mod Laws

@@ -1,0 +1,4 @@
+-- What the contracts of sin, cos and tan cite. Assumes nothing.
+pub mod Series
+pub mod Exact
+pub mod Sine

@@ -1,0 +1,115 @@
+// Sine, cosine and tangent in fixed point. Qk is a whole number that stands for itself over 2^k.
+ghost use mathlib.Core.Path.{_≡_};
+ghost use Prim.Native.Nat.{_+_, _-_, _*_, _/_, _^_, _<_, _≤_};
+ghost use Rattle.sine.specs.Exact.{within};
+ghost use Rattle.sine.specs.Sine.{sincOf, sineFix, waveOf, ratioOf, sinOf, cosOf, tanOf, Sine, Tangent, quarter31};
+use fixed::pack;
+use fixed::size;
+
+// b - y v in Q32.
+fn step(b: u64, y: u64, v: u64) -> u64
+    requires { ⌜ (y ≤ b) × (b ≤ 4294967296) × (v < 4294967296) ⌝ }
+    ensures { λ r. ⌜ (r ≡ b - y * v / 4294967296) × (r ≤ b) ⌝ }
+{
+    b - y * v / 4294967296
+}
+
+// sin z / z in Q32, for v = z^2 / 4 in Q32.
+fn sinc(v: u64) -> u64
+    requires { ⌜ v < 4294967296 ⌝ }
+    ensures { λ r. ⌜ (r ≡ sincOf v) × (r ≤ 4294967296) ⌝ }
+{
+    let y5 = step(110180, 2825, v); // Q32
+    let y4 = step(3029959, y5, v); // Q32
+    let y3 = step(54539267, y4, v); // Q32
+    let y2 = step(572662306, y3, v); // Q32
+    let y1 = step(2863311531, y2, v); // Q32
+    step(4294967296, y1, v)
+}
+
+// The sine of the angle z in Q31, up to a quarter turn, in Q63, and 1 more, so that it is not 0.
+fn sine_fix(z: u64) -> u64
+    requires { ⌜ z ≤ quarter31 ⌝ }
+    ensures { λ r. ⌜ (r ≡ sineFix z) × (0 < r) ⌝ }
+{
+    z * sinc(z * z / 4294967296) + 1
+}
+
+// The angle within a quarter turn.
+fn within(k: u64, m: u64) -> u64
+    requires { ⌜ m ≤ quarter31 ⌝ }
+    ensures { λ r. ⌜ (r ≡ within k quarter31 m) × (r ≤ quarter31) ⌝ }
+{
+    if k % 2 == 0 {
+        return m;
+    }
+    3373259426 - m
+}
+
+// The sine of x in Q31 and j quarter turns.
+fn wave(x: u64, j: u64) -> f32
+    requires { ⌜ j ≤ 1 ⌝ }
+    ensures { λ r. ⌜ r ≡ waveOf j x ⌝ }
+{
+    let k = x / 3373259426 + j;
+    let z = within(k, x % 3373259426); // Q31
+    let q = sine_fix(z); // Q63
+    let r = pack(q, 63);
+    if k % 4 >= 2 {
+        return -r;
+    }
+    r
+}
+
+// The sine, for x from 0 to 8.
+pub fn sin(x: f32) -> f32
+    ensures is { λ r. ⌜ r ≡ sinOf x ⌝ }
+    ensures near { λ r. ⌜ Sine 0 x r ⌝ }
+{
+    if (x >= 0.0) & (x <= 8.0) {
+        if x < 0.0009765625 {
+            return x;
+        }
+        return wave(size(x) / 2, 0);
+    }
+    0.0 / 0.0
+}
+
+// The cosine, for x from 0 to 8.
+pub fn cos(x: f32) -> f32
+    ensures is { λ r. ⌜ r ≡ cosOf x ⌝ }
+    ensures near { λ r. ⌜ Sine 1 x r ⌝ }
+{
+    if (x >= 0.0) & (x <= 8.0) {
+        return wave(size(x) / 2, 1);
+    }
+    0.0 / 0.0
+}
+
+// sin z / z over cos z in Q32, for the angle z in Q31, up to 1.5.
+fn ratio(z: u64) -> u64
+    requires { ⌜ z ≤ 3221225472 ⌝ }
+    ensures { λ r. ⌜ (r ≡ ratioOf z) × (0 < r) × (r ≤ 137438953472) ⌝ }
+{
+    let y = sinc(z * z / 4294967296); // Q32
+    let c = sine_fix(3373259426 - z) / 4294967296; // Q31
+    y * 2147483648 / c
+}
+
+// The tangent, for x from 0 to 1.5: the digits of x, times the ratio.
+pub fn tan(x: f32) -> f32
+    ensures is { λ r. ⌜ r ≡ tanOf x ⌝ }
+    ensures near { λ r. ⌜ Tangent x r ⌝ }
+{
+    if (x >= 0.0) & (x <= 1.5) {
+        if x < 0.000000059604644775390625 {
+            return x;
+        }
+        let b: u32 = f32::to_bits(x);
+        let d: u64 = (b % 8388608 + 8388608) as u64;
+        let e: u64 = (b % 2147483648 / 8388608) as u64;
+        let q = d * ratio(size(x) / 2); // Q(182 - e)
+        return pack(q, 182 - e);
+    }
+    0.0 / 0.0
+}

@@ -1,0 +1,3 @@
+-- Laws of `cym`.
+pub mod Inside
+pub mod Kept

@@ -1,0 +1,2 @@
+-- The definitions that the contracts of `cym` cite.
+pub mod Cym

@@ -1,0 +1,145 @@
+-- One sample of a dual voice, on any frame of bytes, keeps its phases from 0 to 1, its detunes and drifts bounded and its levels levels, and so the random source. Assumes nothing.
+use Prim.Native.Nat.{ℕ, _+_, _*_, _≤_}
+use native.Mathlib.Omega.{arith}
+use mathlib.Core.Bool.{Bool, true, false, not, _&&_, _||_, cond}
+use mathlib.Core.List.{List}
+use lib.ListN.{getD}
+use lib.Dec.{eqb, le→leb}
+use lib.IntN.{pos}
+use lib.Ieee.{Float, nan, binary32, neg, le, lt, eq, fits, ofBits, ofInt, round}
+use Rattle.line.proofs.Range.{In, in-of}
+use Rattle.line.proofs.Rem.{nought-in}
+use Rattle.line.proofs.Whole.{ofInt-in}
+use Rattle.float.specs.Consts.{k0, k1, k3, k127, k48000, k65535, k0p45, kM128, kTunePerLevel, kHzPerTune}
+use Rattle.float.specs.Ops.{_⊗_, _⊘_}
+use Rattle.float.specs.Floats.{minOf, clampOf}
+use Rattle.float.proofs.Eval.{leaf, con, plus, times, over, capped, floored, clamped, range, proves}
+use Rattle.frame.specs.Offsets.{dualSpec}
+use Rattle.frame.proofs.Sizes.{Bytes, word-in, bytes-in}
+use Rattle.envelope.specs.Levels.{Level}
+use Rattle.envelope.proofs.Settle.{dual-level}
+use Rattle.power.specs.Power.{exp2Of}
+use Rattle.vco.specs.Vco.{pairOf}
+use Rattle.vco.proofs.Kept.{osc-in, advanced-in, advanced-fm-in}
+use Rattle.wobble.specs.declared.Wobble.{Wobble}
+use Rattle.wobble.specs.declared.Drift.{Drift}
+use Rattle.wobble.specs.Wobble.{detuneOf, driftOf}
+use Rattle.wobble.proofs.Kept.{Unit, Ratio, WobbleIn, DriftIn, detune-in, drift-in}
+use Rattle.dual.specs.declared.DualOsc.{DualOsc}
+use Rattle.dual.specs.declared.Setting.{Setting}
+use Rattle.dual.specs.declared.Trigged.{Trigged}
+use Rattle.dual.specs.declared.Sound.{Sound}
+use Rattle.dual.specs.Dual.{cvAt, recordAt, settingOf, trigOf, hzOf, pairedOf, plainOf, soundOf, sampleOf}
+
+abbrev none : Drift
+none = record { cents = nan; ratio = nan; n = 0 }
+
+pub record DualIn (d : DualOsc) : Type 0 where
+  pub ph1 : Unit (d .ph1)
+  pub ph2 : Unit (d .ph2)
+  pub pitch : Level (d .pitch .level)
+  pub amp : Level (d .amp .level)
+  pub amp2 : Level (d .amp2 .level)
+  pub det1 : Ratio (getD (d .det) 0 nan)
+  pub det2 : Ratio (getD (d .det) 1 nan)
+  pub drift1 : DriftIn (getD (d .drift) 0 none)
+  pub drift2 : DriftIn (getD (d .drift) 1 none)
+
+-- ---- what the frame gives
+pub cv-in : (f : List ℕ) → Bytes f → (d k : ℕ) → cvAt f d k ≤ 65535
+unfolding cvAt
+cv-in f h d k = word-in f h (dualSpec d .cv + 2 * k)
+
+pub record-bytes : (f : List ℕ) → Bytes f → (d k : ℕ) → Bytes (recordAt f d k)
+unfolding recordAt
+record-bytes f h d k = bytes-in f h (dualSpec d .env + 8 * k)
+
+level-range : (x : Float) → Level x → In binary32 kM128 k127 x
+unfolding ofBits fits neg
+level-range x h = in-of binary32 kM128 k127 x tt (h .held) (h .low) (h .high)
+
+word-range : (w : ℕ) → w ≤ 65535 → In binary32 k0 k65535 (ofInt binary32 (pos w))
+word-range w h = unfold ofBits ofInt round fits le lt eq in ofInt-in binary32 (pos 0) (pos 65535) k0 k65535 (pos w) (le→leb 0 w (omega arith)) (le→leb w 65535 h) tt
+
+-- ---- the frequency
+pub hz-in : (w : ℕ) (l t r : Float) → w ≤ 65535 → Level l → Ratio t → Ratio r → In binary32 k0 k65535 (hzOf w l t r)
+unfolding hzOf ofBits proves
+hz-in w l t r h a b c =
+    range k0 k65535 (times (times (times (plus (leaf (word-range w h)) (times (floored (leaf (level-range l a)) k0) (con kTunePerLevel))) (con kHzPerTune)) (leaf b)) (leaf c)) tt
+
+depth-in : (w : ℕ) (l : Float) → w ≤ 65535 → Level l → In binary32 k0 k65535 (ofInt binary32 (pos w) ⊗ clampOf (l ⊘ k127) k0 k1)
+unfolding ofBits proves
+depth-in w l h k = range k0 k65535 (times (leaf (word-range w h)) (clamped (over (leaf (level-range l k)) k127) k0 k1)) tt
+
+cut-in : (v : Float) → In binary32 k0 k65535 v → In binary32 k0 k65535 (minOf v (k48000 ⊗ k0p45))
+unfolding ofBits proves
+cut-in v h = range k0 k65535 (capped (leaf h) (k48000 ⊗ k0p45)) tt
+
+-- ---- the two phases
+pub record PhasesIn (s : Sound) : Type 0 where
+  pub ph1 : Unit (s .ph1)
+  pub ph2 : Unit (s .ph2)
+
+choose-in : (b : Bool) (x y : Float) → Unit x → Unit y → Unit (cond b x y)
+choose-in true x y h k = h
+choose-in false x y h k = k
+
+module _ (i : Setting) (p q f1 f2 a : Float) (P : Unit p) (Q : Unit q) (F1 : In binary32 k0 k65535 f1) (F2 : In binary32 k0 k65535 f2) where
+  plain-in : PhasesIn (plainOf i p q f1 f2)
+  unfolding plainOf
+  plain-in = record { ph1 = advanced-in p f1 P F1; ph2 = advanced-in q f2 Q F2 }
+
+  paired-in : i .level2 ≤ 65535 → Level a → PhasesIn (pairedOf i p q f1 f2 a)
+  unfolding pairedOf pairOf
+  paired-in w l = record {
+    ph1 = choose-in (eqb (i .tune1) 0) p _ P (advanced-fm-in (i .fm) p f1 _ _ P F1 (depth-in (i .level2) a w l) (osc-in (eqb (i .tune2) 0) (i .wave2) q Q));
+    ph2 = choose-in (eqb (i .tune2) 0) q _ Q (advanced-in q _ Q (cut-in f2 F2));
+  }
+
+  sound-in : i .level2 ≤ 65535 → Level a → PhasesIn (soundOf i p q f1 f2 a)
+  unfolding soundOf
+  sound-in w l = by (i .fm || i .ring)
+    where
+      by : (b : Bool) → PhasesIn (cond b (pairedOf i p q f1 f2 a) (plainOf i p q f1 f2))
+      by true = paired-in w l
+      by false = plain-in
+
+-- ---- the trig
+pub record TriggedIn (t : Trigged) : Type 0 where
+  pub ph1 : Unit (t .ph1)
+  pub ph2 : Unit (t .ph2)
+  pub det1 : Ratio (getD (t .det) 0 nan)
+  pub det2 : Ratio (getD (t .det) 1 nan)
+  pub w : WobbleIn (t .w)
+
+zero-in : Unit k0
+unfolding ofBits
+zero-in = nought-in binary32
+
+trig-in : (rise : Bool) (d : DualOsc) (w : Wobble) → DualIn d → WobbleIn w → TriggedIn (trigOf rise (d .ph1) (d .ph2) (d .det) w)
+unfolding trigOf
+trig-in true d w h k =
+    let a = detune-in w k in
+    let b = detune-in (detuneOf w k3 .w) (a .0) in
+    record { ph1 = zero-in; ph2 = zero-in; det1 = a .1; det2 = b .1; w = b .0 }
+trig-in false d w h k = record { ph1 = h .ph1; ph2 = h .ph2; det1 = h .det1; det2 = h .det2; w = k }
+
+pub dual-in : (f : List ℕ) → Bytes f → (n : ℕ) (d : DualOsc) (w : Wobble) → DualIn d → WobbleIn w → DualIn (sampleOf f n d w .dual) × WobbleIn (sampleOf f n d w .w)
+unfolding sampleOf settingOf
+dual-in f B n d w h k =
+    let i = settingOf f n in
+    let t = trigOf (i .trig && not (d .trig)) (d .ph1) (d .ph2) (d .det) w in
+    let T' = trig-in (i .trig && not (d .trig)) d w h k in
+    let D1 = drift-in (getD (d .drift) 0 none) (t .w) (h .drift1) (T' .w) in
+    let d1 = driftOf (getD (d .drift) 0 none) (t .w) in
+    let D2 = drift-in (getD (d .drift) 1 none) (d1 .w) (h .drift2) (D1 .1) in
+    let d2 = driftOf (getD (d .drift) 1 none) (d1 .w) in
+    let pitch = dual-level (d .«last_p») (recordAt f n 0) (d .pitch) (record-bytes f B n 0) (h .pitch) in
+    let amp = dual-level (d .«last_a») (recordAt f n 2) (d .amp) (record-bytes f B n 2) (h .amp) in
+    let amp2 = dual-level (d .«last_m») (recordAt f n 3) (d .amp2) (record-bytes f B n 3) (h .amp2) in
+    let F1 = hz-in (cvAt f n 0) _ _ (d1 .drift .ratio) (cv-in f B n 0) pitch (T' .det1) (D1 .0 .ratio) in
+    let F2 = hz-in (cvAt f n 1) _ _ (d2 .drift .ratio) (cv-in f B n 1) pitch (T' .det2) (D2 .0 .ratio) in
+    let s = sound-in i (t .ph1) (t .ph2) _ _ _ (T' .ph1) (T' .ph2) F1 F2 (cv-in f B n 3) amp2 in (
+      record { ph1 = s .ph1; ph2 = s .ph2; pitch = pitch; amp = amp; amp2 = amp2; det1 = T' .det1; det2 = T' .det2; drift1 = D1 .0; drift2 = D2 .0 },
+      D2 .1,
+    )

@@ -1,0 +1,3 @@
+-- Laws of `dual`.
+pub mod Inside
+pub mod Kept

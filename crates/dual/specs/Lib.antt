@@ -1,0 +1,2 @@
+-- The definitions that the contracts of `dual` cite.
+pub mod Dual

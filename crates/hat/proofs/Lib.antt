@@ -1,0 +1,2 @@
+-- Laws of `hat`.
+pub mod Kept

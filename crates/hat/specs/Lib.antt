@@ -1,0 +1,2 @@
+-- The definitions that the contracts of `hat` cite.
+pub mod Hat

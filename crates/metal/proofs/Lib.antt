@@ -1,0 +1,2 @@
+-- Laws of `metal`.
+pub mod Kept

@@ -1,0 +1,2 @@
+-- The definitions that the contracts of `metal` cite.
+pub mod Metal

@@ -1,0 +1,3 @@
+-- Laws of `tom`.
+pub mod Zero
+pub mod Inside

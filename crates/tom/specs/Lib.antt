@@ -1,0 +1,2 @@
+-- The definitions that the contracts of `tom` cite.
+pub mod Tom

@@ -1,0 +1,2 @@
+-- Laws of `vco`.
+pub mod Kept

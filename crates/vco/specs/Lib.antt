@@ -1,0 +1,2 @@
+-- The definitions that the contracts of `vco` cite.
+pub mod Vco

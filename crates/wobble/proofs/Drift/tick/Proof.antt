@@ -1,0 +1,34 @@
+-- `wobble::Drift::tick` meets its contract: it counts, or draws, by the test of the counter. Assumes nothing.
+use borrow.Author.Tests.{le-ltb, lt-ltb}
+use Rattle.wobble.specs.Wobble.{driftOf, centsOf}
+use borrow.Author.Needs.{needs}
+use Rattle.wobble.proofs.Drift.tick.Statement.{statement}
+use Rattle.wobble.proofs.Drift.tick.Tie as tie
+
+add-t9 : tie.Need-add-t9
+add-t9 c = search needs
+
+returns : tie.Need-returns
+unfolding driftOf centsOf
+returns c = rw (lt-ltb _ _ (c .before .if1 .taken))
+
+uni-requires : tie.Need-uni-requires
+uni-requires c κs = search needs
+
+sqrt-requires : tie.Need-sqrt-requires
+sqrt-requires c κs = search needs
+
+sqrt-requires-2 : tie.Need-sqrt-requires-2
+sqrt-requires-2 c κs = search needs
+
+exp2-requires : tie.Need-exp2-requires
+exp2-requires c κs = search needs
+
+returns-2 : tie.Need-returns-2
+unfolding driftOf centsOf
+returns-2 c = rw (le-ltb _ _ (c .before .before .before .before .before .before .before .before .before .if1 .left), ← c .before .before .before .before .before .before .before .before .uni .ensures, ← c .before .before .before .before .before .before .before .sqrt .ensures .0, ← c .before .before .before .before .before .sqrt2 .ensures .0, ← c .exp2 .ensures .0)
+
+pub tick-spec : {M : Type 1} → statement M
+tick-spec =
+    tie.close
+    (tie.spec add-t9 returns uni-requires sqrt-requires sqrt-requires-2 exp2-requires returns-2)

@@ -1,0 +1,2 @@
+-- Laws of `wobble`.
+pub mod Kept

@@ -1,0 +1,2 @@
+-- The definitions that the contracts of `wobble` cite.
+pub mod Wobble

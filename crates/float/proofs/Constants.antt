@@ -14,6 +14,7 @@ constants = record {
   c8 = refl;
   c10 = refl;
   c12 = refl;
+  c15 = refl;
   c16 = refl;
   c32 = refl;
   c60 = refl;

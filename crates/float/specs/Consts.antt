@@ -41,6 +41,10 @@ k10 = ofBits binary32 0x41200000
 abbrev pub k12 : Float
 k12 = ofBits binary32 0x41400000
 
+-- 15.0
+abbrev pub k15 : Float
+k15 = ofBits binary32 0x41700000
+
 -- 16.0
 abbrev pub k16 : Float
 k16 = ofBits binary32 0x41800000
@@ -263,6 +267,7 @@ pub record Constants : Type 0 where
   pub c8 : k8 ≡ near 8 1
   pub c10 : k10 ≡ near 10 1
   pub c12 : k12 ≡ near 12 1
+  pub c15 : k15 ≡ near 15 1
   pub c16 : k16 ≡ near 16 1
   pub c32 : k32 ≡ near 32 1
   pub c60 : k60 ≡ near 60 1

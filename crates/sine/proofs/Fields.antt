@@ -2,32 +2,27 @@
 use mathlib.Core.Path.{_≡_, refl, sym, ap, _∙_}
 use mathlib.Core.Bool.{Bool, true, false, not, cond}
 use Prim.Native.Nat.{ℕ, zero, suc, _+_, _-_, _*_, _/_, _%_, _^_, _≤_, _<_}
-use native.Mathlib.Nat.{le-trans, le-of-eq, lt-irrefl, lt-of-lt-of-le, lt-of-le-of-lt, lt-of-not-le, mul-pos, mul-le-mul, mul-le-mul-left, mul-le-mul-right, mul-lt-mul-of-pos-left, mul-lt-mul-of-pos-right, eq-of-mul-eq-mul-right}
+use native.Mathlib.Nat.{lt-of-lt-of-le, lt-of-le-of-lt, mul-pos, mul-le-mul, eq-of-mul-eq-mul-right}
 use native.Mathlib.Omega.{arith}
 use lib.IntN.{ℤ, pos, negsuc}
 use lib.Dec.{T, leb, lit<, lit≤, lt→ltb, eqb→eq}
-use lib.Pow.{pow-pos, pow-add, pow-mono, shl-lt}
+use lib.Pow.{pow-pos, pow-add}
 use lib.Ieee.{Float, nan, inf, fin, binary32, up, down, lt, le, eq, fits, toBits}
 use lib.Ieee.Bits.{is-true, is-false}
 use lib.Ieee.Fits.{down-pos, up-pos}
 use Rattle.series.specs.Near.{Within}
 use Rattle.series.proofs.Algebra.{ac}
 use Rattle.fixed.specs.Fixed.{sizeOf, packOf, small}
-use Rattle.fixed.proofs.Placed.{Told, told, zero-told}
+use Rattle.fixed.proofs.Placed.{Told}
 use Rattle.fixed.proofs.Packs.{packed}
 use Rattle.sine.specs.Exact.{sineNum}
 use Rattle.sine.specs.Sine.{oneFive, tiny, upTo, ratioOf, tanOf, Tangent}
 use Rattle.sine.proofs.Cases.{half-size, minus-zero, up-to, under, not-under}
+use Rattle.sine.proofs.Digits.{parts, field-above}
 use Rattle.sine.proofs.Quotient.{ratio-low, ratio-high}
 use Rattle.sine.proofs.Tangent.{x-le, tan-at, tan-own}
 
--- ---- the digits and the exponent's field f of x = a / c: a number below 2 ^ -24 has no such pattern
-too-small : (a c d W : ℕ) → 0 < a → a * W ≡ d * c → c ≤ a * 16777216 → d * 16777216 < W → ⊥
-too-small a c d W ap' e h l = lt-irrefl (a * W) (lt-of-le-of-lt (le-trans (le-of-eq e) (le-trans (mul-le-mul-left d h) (le-of-eq (shuffle d a)))) (mul-lt-mul-of-pos-left l ap'))
-  where
-    shuffle : (d a : ℕ) → d * (a * 16777216) ≡ a * (d * 16777216)
-    shuffle d a = simp ac
-
+-- ---- the digits D of x = a / c and its exponent's field f
 scaled : (a c D y X K W Q : ℕ) → 0 < X → K * X ≡ W * Q → a * W ≡ D * X * c → D * y * (c * Q) ≡ a * y * K
 scaled a c D y X K W Q xp k e = eq-of-mul-eq-mul-right X xp (D * y * (c * Q)) (a * y * K) (simp ac (simp ac at (sym (ap (λ (z : ℕ). z * (y * Q)) e) ∙ f a W y Q K X k)))
   where
@@ -39,9 +34,6 @@ powers f l h = sym (pow-add 2 (182 - f) (f - 1)) ∙ ap (λ (i : ℕ). 2 ^ i) su
   where
     sum : 182 - f + (f - 1) ≡ 181
     sum = omega arith
-
-short : (d f : ℕ) → d < 16777216 → f ≤ 61 → d * 2 ^ (f - 1) * 16777216 < 2 ^ 149
-short d f h l = lt-of-lt-of-le (mul-lt-mul-of-pos-right {k = 16777216} (shl-lt 24 (f - 1) h) (lit< tt)) (le-trans (mul-le-mul-right 16777216 (pow-mono {j = 84} (omega arith))) (lit≤ tt))
 
 pub narrow-small : (x : Float) → T (upTo oneFive x) → T (small x)
 unfolding le lt eq small
@@ -75,20 +67,11 @@ module _ (s : Bool) (m : ℕ) (e : ℤ) (h : T (fits binary32 (fin s m e))) (t :
   low : c ≤ a * 16777216
   low = omega (arith, not-under s m e tiny tt n)
 
-  some : 0 < a
-  some = omega (arith, low, down-pos e)
-
-  field-some : f ≡ 0 → ⊥
-  field-some z = too-small a c (b % 8388608 * 2 ^ 0) (2 ^ 149) some (zero-told x h (narrow-small x t) z .1) low (lt-of-lt-of-le (few (b % 8388608) (omega arith)) (lit≤ tt))
-    where
-      few : (d : ℕ) → d < 8388608 → d * 1 * 16777216 < 140737488355328
-      few d l = omega arith
-
-  parts : Told x (leb 2147483648 b) f (b % 8388608)
-  parts = told x h (narrow-small x t) field-some
+  told-parts : Told x (leb 2147483648 b) f (b % 8388608)
+  told-parts = parts 16777216 (lit≤ tt) s m e h (narrow-small x t) low
 
   field-low : 62 ≤ f
-  field-low = lt-of-not-le (λ (g : f ≤ 61). too-small a c (d * 2 ^ (f - 1)) (2 ^ 149) some (parts .value .1) low (short d f (omega arith) g))
+  field-low = field-above 16777216 (lit≤ tt) s m e h (narrow-small x t) low 60 (lit< tt) (lit≤ tt)
 
   halved : (X * c ≤ a * 2147483648) × (a * 2147483648 < X * c + c)
   halved = half-size a c (down-pos e)
@@ -109,7 +92,7 @@ module _ (s : Bool) (m : ℕ) (e : ℤ) (h : T (fits binary32 (fin s m e))) (t :
   tan-pack =
       tan-at a c X (down-pos e) top-is (halved .0) (halved .1) (d * ratioOf X) (2 ^ (182 - f)) (packOf (d * ratioOf X) (182 - f)) (pow-pos (182 - f))
       (packed (d * ratioOf X) (182 - f) product-lt product-pos (omega (arith, field-low)))
-      (scaled a c d (ratioOf X) (2 ^ (f - 1)) (2 ^ (182 - f)) (2 ^ 149) 4294967296 (pow-pos (f - 1)) (powers f (omega (arith, field-low)) (omega (arith, parts .low))) (parts .value .1))
+      (scaled a c d (ratioOf X) (2 ^ (f - 1)) (2 ^ (182 - f)) (2 ^ 149) 4294967296 (pow-pos (f - 1)) (powers f (omega (arith, field-low)) (omega (arith, told-parts .low))) (told-parts .value .1))
 
 -- ---- the distance
 zero-tan : (s : Bool) (e : ℤ) → T (fits binary32 (fin s zero e)) → tanOf (fin s zero e) ≡ fin s zero e
@@ -160,4 +143,4 @@ unfolding le lt eq sizeOf
 ready nan h t n = absurd t
 ready (inf true) h t n = absurd t
 ready (inf false) h t n = absurd t
-ready (fin s m e) h t n = record { angle = X-le s m e h t n; field = field-low s m e h t n; below = parts s m e h t n .low }
+ready (fin s m e) h t n = record { angle = X-le s m e h t n; field = field-low s m e h t n; below = told-parts s m e h t n .low }

@@ -1,4 +1,5 @@
 -- The laws of sin, cos and tan. Assumes nothing.
+pub mod Sign
 pub mod Nested
 pub mod Turn
 pub mod Method
@@ -7,6 +8,7 @@ pub mod Small
 pub mod Cases
 pub mod Quotient
 pub mod Tangent
+pub mod Digits
 pub mod Fields
 pub mod Bound
 pub mod Laws

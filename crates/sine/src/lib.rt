@@ -1,8 +1,12 @@
 // Sine, cosine and tangent in fixed point. Qk is a whole number that stands for itself over 2^k.
 ghost use mathlib.Core.Path.{_≡_};
+ghost use mathlib.Core.Bool.{not};
 ghost use Prim.Native.Nat.{_+_, _-_, _*_, _/_, _^_, _<_, _≤_};
+ghost use lib.Dec.{T};
+ghost use lib.Ieee.{lt};
+ghost use Rattle.fixed.specs.Fixed.{sizeOf};
 ghost use Rattle.sine.specs.Exact.{within};
-ghost use Rattle.sine.specs.Sine.{sincOf, sineFix, waveOf, ratioOf, sinOf, cosOf, tanOf, Sine, Tangent, quarter31};
+ghost use Rattle.sine.specs.Sine.{eight, little, upTo, sincOf, sineFix, waveOf, ratioOf, sinOf, cosOf, tanOf, Sine, Tangent, quarter31};
 use fixed::pack;
 use fixed::size;
 
@@ -55,10 +59,19 @@ fn wave(x: u64, j: u64) -> f32
     let z = within(k, x % 3373259426); // Q31
     let q = sine_fix(z); // Q63
     let r = pack(q, 63);
-    if k % 4 >= 2 {
-        return -r;
-    }
-    r
+    let sign = (k % 4 / 2) as u32;
+    f32::from_bits(f32::to_bits(r) + sign * 2147483648)
+}
+
+// x in Q31, cut, for x from 2^-10 to 8.
+fn angle(x: f32) -> u64
+    requires { ⌜ T (upTo eight x) × T (not (lt x little)) ⌝ }
+    ensures { λ r. ⌜ r ≡ sizeOf x / 2 ⌝ }
+{
+    let b: u32 = f32::to_bits(x);
+    let d: u64 = (b % 8388608 + 8388608) as u64;
+    let e: u64 = (b % 2147483648 / 8388608) as u64;
+    (d << (e - 117)) / 4
 }
 
 // The sine, for x from 0 to 8.
@@ -70,7 +83,7 @@ pub fn sin(x: f32) -> f32
         if x < 0.0009765625 {
             return x;
         }
-        return wave(size(x) / 2, 0);
+        return wave(angle(x), 0);
     }
     0.0 / 0.0
 }
@@ -81,7 +94,10 @@ pub fn cos(x: f32) -> f32
     ensures near { λ r. ⌜ Sine 1 x r ⌝ }
 {
     if (x >= 0.0) & (x <= 8.0) {
-        return wave(size(x) / 2, 1);
+        if x < 0.0009765625 {
+            return wave(size(x) / 2, 1);
+        }
+        return wave(angle(x), 1);
     }
     0.0 / 0.0
 }

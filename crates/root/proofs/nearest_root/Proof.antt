@@ -5,8 +5,6 @@ use native.Mathlib.Omega.{arith}
 use Rattle.root.proofs.Whole.{root-is, one-nearest, root-lt}
 use Rattle.root.proofs.nearest_root.Statement.{statement}
 use Rattle.root.proofs.nearest_root.Tie as tie
-use Rattle.root.proofs.nearest_root.Reads as reads
-use Rattle.root.proofs.nearest_root.Lts as lts
 
 abbrev Inv-loop : tie.InvT-loop
 Inv-loop q g n₀ n = (n < 16777216)

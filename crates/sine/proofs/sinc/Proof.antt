@@ -7,9 +7,6 @@ use Rattle.sine.specs.Sine.{sincOf}
 use borrow.Author.Needs.{needs}
 use Rattle.sine.proofs.sinc.Statement.{statement}
 use Rattle.sine.proofs.sinc.Tie as tie
-use Rattle.sine.proofs.sinc.Reads as reads
-use Rattle.sine.proofs.sinc.Lts as lts
-use Rattle.sine.proofs.step.Reads as step-reads
 
 step-requires : tie.Need-step-requires
 step-requires c κs = search needs

@@ -1,12 +1,14 @@
--- `sine::wave` meets its contract: its steps are those of `waveOf`. Assumes nothing.
-use mathlib.Core.Path.{_≡_, _∙_, ap}
-use Prim.Native.Nat.{ℕ, _+_, _/_, _%_}
+-- `sine::wave` meets its contract: its steps are those of `waveOf`, and the sign is put into the pattern. Assumes nothing.
+use mathlib.Core.Path.{_≡_, _∙_, sym, ap, subst}
+use Prim.Native.Nat.{ℕ, _+_, _/_, _%_, _^_}
+use native.Mathlib.Omega.{arith}
 use borrow.Author.Needs.{needs}
-use borrow.Author.Tests.{le-leb, lt-leb}
-use lib.Ieee.{neg}
+use lib.Dec.{T}
+use lib.Ieee.{Float, binary32, fits}
 use Rattle.fixed.specs.Fixed.{packOf}
-use Rattle.sine.specs.Exact.{within}
-use Rattle.sine.specs.Sine.{sineFix, quarter31, waveOf}
+use Rattle.sine.specs.Exact.{within, lower}
+use Rattle.sine.specs.Sine.{sineFix, quarter31, signed, waveOf}
+use Rattle.sine.proofs.Sign.{Turned, turned, pack-fits}
 use Rattle.sine.proofs.wave.Statement.{statement}
 use Rattle.sine.proofs.wave.Tie as tie
 
@@ -22,17 +24,48 @@ sine-fix-requires c κs = search needs
 pack-requires : tie.Need-pack-requires
 pack-requires c κs = search needs
 
-size-of : (c : tie.After-pack) → c .pack .result ≡ packOf (sineFix (within (c .before .before .before .args .x / quarter31 + c .before .before .before .args .j) quarter31 (c .before .before .before .args .x % quarter31))) 63
+cast-sign : tie.Need-cast-sign
+cast-sign c = search needs
+
+quarters : (c : tie.After-pack) → ℕ
+quarters c = c .before .before .before .args .x / quarter31 + c .before .before .before .args .j
+
+size-of : (c : tie.After-pack) → c .pack .result ≡ packOf (sineFix (within (quarters c) quarter31 (c .before .before .before .args .x % quarter31))) 63
+unfolding quarters
 size-of c = c .pack .ensures .0 ∙ ap (λ (q : ℕ). packOf q 63) (c .before .sine-fix .ensures .0 ∙ ap sineFix (c .before .before .within .ensures .0))
 
-returns : tie.Need-returns
-unfolding waveOf
-returns c = rw (le-leb _ _ (c .if1 .taken)) (ap neg (size-of (c .before)))
+known : (c : tie.After-pack) → Turned (quarters c) (c .pack .result)
+known c = turned (quarters c) 16777216 (c .before .sine-fix .result) (2 ^ 63) (c .pack .result) (subst (λ (v : Float). T (fits binary32 v)) (sym (c .pack .ensures .0)) (pack-fits (c .before .sine-fix .result) 63)) (c .pack .ensures .1)
 
-returns-2 : tie.Need-returns-2
-unfolding waveOf
-returns-2 c = rw (lt-leb _ _ (c .if1 .left)) (size-of (c .before))
+float-to-bits-result : tie.Need-float-to-bits-result
+float-to-bits-result c = known c .number
+
+mul-result : tie.Need-mul-result
+mul-result c = search needs
+
+add-result : tie.Need-add-result
+unfolding quarters
+add-result c = omega (arith, known c .room)
+
+float-from-bits-result : tie.Need-float-from-bits-result
+unfolding quarters
+float-from-bits-result c = known c .good
+
+returns : tie.Need-returns
+unfolding quarters waveOf
+returns c = known c .is ∙ ap (signed (lower (quarters c))) (size-of c)
 
 pub wave-spec : {M : Type 1} → statement M
 wave-spec =
-    tie.close (tie.spec add-k within-requires sine-fix-requires pack-requires returns returns-2)
+    tie.close
+    (tie.spec
+    add-k
+    within-requires
+    sine-fix-requires
+    pack-requires
+    cast-sign
+    float-to-bits-result
+    mul-result
+    add-result
+    float-from-bits-result
+    returns)

@@ -5,16 +5,13 @@ use mathlib.Core.Path.{_≡_, sym, subst, _∙_}
 use mathlib.Core.Bool.{Bool, true, false, cond}
 use mathlib.Core.List.{List}
 use lib.ListN.{getD, length}
-use lib.Ieee.{Float, binary32, neg}
-use Rattle.line.proofs.Range.{In}
-use Rattle.float.specs.Consts.{k0, k0p5}
+use Rattle.float.specs.Consts.{k0}
 use Rattle.frame.proofs.Sizes.{Bytes, bytes-in}
 use Rattle.lists.specs.Turns.{eachOf}
 use Rattle.lists.proofs.Sweep.{each-length, each-at}
 use Rattle.envelope.specs.declared.Env.{Env}
 use Rattle.envelope.specs.Levels.{Level}
 use Rattle.envelope.proofs.Settle.{hit-level}
-use Rattle.power.specs.Power.{exp2Of}
 use Rattle.metal.specs.Metal.{hitDraws}
 use Rattle.metal.proofs.Kept.{Six, hit-in, bank-in}
 use Rattle.wobble.specs.declared.Wobble.{Wobble}

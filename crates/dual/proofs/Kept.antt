@@ -18,7 +18,6 @@ use Rattle.frame.specs.Offsets.{dualSpec}
 use Rattle.frame.proofs.Sizes.{Bytes, word-in, bytes-in}
 use Rattle.envelope.specs.Levels.{Level}
 use Rattle.envelope.proofs.Settle.{dual-level}
-use Rattle.power.specs.Power.{exp2Of}
 use Rattle.vco.specs.Vco.{pairOf}
 use Rattle.vco.proofs.Kept.{osc-in, advanced-in, advanced-fm-in}
 use Rattle.wobble.specs.declared.Wobble.{Wobble}

@@ -1,3 +1,4 @@
+-- Laws of floats in fixed point, lowest first. Assumes nothing.
 pub mod Fields
 pub mod Shifts
 pub mod Placed

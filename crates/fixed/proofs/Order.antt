@@ -3,10 +3,10 @@ use mathlib.Core.Path.{_≡_, refl, sym, _∙_, subst}
 use mathlib.Core.Logic.{_⊎_, inl, inr}
 use mathlib.Core.Bool.{Bool, true, false, not, _&&_, _||_, Bool·beq, true≢false}
 use Prim.Native.Nat.{ℕ, zero, suc, _+_, _*_, _≤_, _<_}
-use native.Mathlib.Nat.{le-refl, le-of-lt, le-of-eq, eq-or-lt-of-le}
+use native.Mathlib.Nat.{le-of-lt, le-of-eq, eq-or-lt-of-le}
 use native.Mathlib.Omega.{arith}
 use lib.IntN.{ℤ, pos}
-use lib.Dec.{T, leb, ltb, eqb, ltb→lt, nltb→le, eqb→eq, eqb-refl, lt→ltb, T-not, not-T}
+use lib.Dec.{T, ltb, eqb, ltb→lt, nltb→le, eqb→eq, eqb-refl, lt→ltb, T-not, not-T}
 use lib.Ieee.{Float, nan, inf, fin, up, down, lt, le, eq, ne, neg, isNan, below, level}
 use lib.Ieee.Fits.{and-i, and-l, and-r}
 use lib.Ieee.Bits.{is-true}

@@ -1,14 +1,13 @@
 -- A fixed-point number as a float, to one part in 2 ^ 24: 25 leading digits are kept, and one is added before the last is dropped. Assumes nothing.
-use mathlib.Core.Path.{_≡_, refl, sym, ap, ap₂, _∙_, subst}
-use Prim.Native.Nat.{ℕ, zero, suc, _+_, _-_, _*_, _/_, _%_, _^_, _≤_, _<_}
-use mathlib.Core.Bool.{Bool, true, false}
-use native.Mathlib.Nat.{le-trans, le-of-eq, le-of-lt, mul-comm, mul-assoc, mul-left-comm, mul-add, add-mul, mul-le-mul-right, mul-le-mul-left, le-of-mul-le-mul-right, mul-le-mul, lt-irrefl, lt-of-not-le, lt-of-lt-of-le}
+use mathlib.Core.Path.{_≡_, sym, ap, _∙_, subst}
+use Prim.Native.Nat.{ℕ, suc, _+_, _-_, _*_, _/_, _%_, _^_, _≤_, _<_}
+use mathlib.Core.Bool.{false}
+use native.Mathlib.Nat.{le-trans, le-of-eq, mul-le-mul-right, le-of-mul-le-mul-right, mul-le-mul, lt-irrefl, lt-of-not-le, lt-of-lt-of-le}
 use native.Mathlib.Omega.{arith}
-use lib.IntN.{ℤ}
-use lib.Dec.{T, lit<}
+use lib.Dec.{T}
 use lib.Count.{leadingZeros, leading-top}
 use lib.Pow.{pow-pos, pow-add, pow-mono, shl-exact, shl-lt}
-use lib.Ieee.{Float, nan, inf, fin, binary32, up, down, ofBits, fits}
+use lib.Ieee.{binary32, fits}
 use lib.Ieee.Bits.{ofBits-fits}
 use lib.Ieee.Exact.{HasValue}
 use Rattle.series.specs.Near.{Within}

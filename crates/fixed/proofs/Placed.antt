@@ -1,8 +1,8 @@
 -- Where a float stands: its pattern's fields give t + 128 and the size of t in Q32, cut. Assumes nothing.
-use mathlib.Core.Path.{_≡_, refl, sym, ap, ap₂, _∙_, subst}
+use mathlib.Core.Path.{_≡_, refl, sym, ap, _∙_, subst}
 use Prim.Native.Nat.{ℕ, zero, suc, _+_, _-_, _*_, _/_, _%_, _^_, _≤_, _<_}
 use mathlib.Core.Bool.{Bool, true, false, cond, not}
-use native.Mathlib.Nat.{le-trans, lt-of-lt-of-le, mul-comm, mul-assoc, mul-left-comm, mul-add, add-mul, mul-one, div-one, mul-le-mul-right, mul-lt-mul-of-pos-right, lt-of-mul-lt-mul-right, eq-of-mul-eq-mul-right, lt-of-not-le, add-comm, lt-irrefl, mul-le-mul-left, le-of-suc-le-suc}
+use native.Mathlib.Nat.{le-trans, lt-of-lt-of-le, mul-one, div-one, mul-le-mul-right, mul-lt-mul-of-pos-right, lt-of-mul-lt-mul-right, eq-of-mul-eq-mul-right, lt-of-not-le, add-comm, lt-irrefl, mul-le-mul-left, le-of-suc-le-suc}
 use native.Mathlib.Omega.{arith}
 use lib.IntN.{ℤ}
 use lib.Dec.{T, leb, ltb, eqb, ltb→lt, nltb→le, lit<}

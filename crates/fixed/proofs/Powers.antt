@@ -1,11 +1,11 @@
 -- The powers of two as floats, and that a product with one is exact. Assumes nothing.
-use mathlib.Core.Path.{_≡_, refl, sym, ap, _∙_, subst}
+use mathlib.Core.Path.{_≡_, refl, sym, ap, _∙_}
 use mathlib.Core.Bool.{false}
 use mathlib.Core.Logic.{_⊎_, inl, inr}
-use Prim.Native.Nat.{ℕ, suc, _+_, _-_, _*_, _^_, _≤_, _<_}
-use native.Mathlib.Nat.{eq-or-lt-of-le, mul-comm, mul-assoc, mul-left-comm, mul-add, add-mul, mul-pos, lt-of-lt-of-le, lt-of-le-of-lt, mul-le-mul-right, one-mul}
+use Prim.Native.Nat.{ℕ, _+_, _-_, _*_, _^_, _≤_, _<_}
+use native.Mathlib.Nat.{eq-or-lt-of-le, lt-of-lt-of-le, one-mul}
 use native.Mathlib.Omega.{arith}
-use lib.Dec.{T, lit<, lit≤}
+use lib.Dec.{lit<, lit≤}
 use lib.Pow.{pow-pos, pow-add, pow-mono, pow-lt, shl-lt}
 use lib.Ieee.{Float, binary32, ofBits, mul, round}
 use lib.Ieee.Exact.{HasValue, round-exact}

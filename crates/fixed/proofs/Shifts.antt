@@ -1,12 +1,12 @@
 -- What `place` and `size_at` compute, on numbers alone. Assumes nothing.
-use mathlib.Core.Path.{_≡_, refl, sym, ap, ap₂, _∙_, subst}
-use Prim.Native.Nat.{ℕ, zero, suc, _+_, _-_, _*_, _/_, _%_, _^_, _≤_, _<_}
-use mathlib.Core.Bool.{Bool, true, false, cond}
-use native.Mathlib.Nat.{le-trans, le-refl, mul-comm, mul-le-mul, lt-of-lt-of-le, div-eq-of-lt, div-eq-of-lt-le, mul-pos, pow-suc}
+use mathlib.Core.Path.{_≡_, sym, _∙_}
+use Prim.Native.Nat.{ℕ, _+_, _-_, _*_, _/_, _%_, _^_, _≤_, _<_}
+use mathlib.Core.Bool.{true, false}
+use native.Mathlib.Nat.{lt-of-lt-of-le, div-eq-of-lt, div-eq-of-lt-le}
 use native.Mathlib.Omega.{arith}
-use lib.Dec.{T, leb, ltb, lit<, lit≤, lt→ltb, le→leb}
-use lib.Arith.{lt→nleb, le→nltb}
-use lib.Pow.{pow-pos, pow-add, pow-mono, shl-exact, shl-lt}
+use lib.Dec.{ltb, lit<, lt→ltb}
+use lib.Arith.{le→nltb}
+use lib.Pow.{pow-pos, pow-mono, shl-exact, shl-lt}
 use lib.Ieee.Bits.{is-false, is-true}
 use Rattle.fixed.specs.Fixed.{placeAt, sizeAt}
 

@@ -3,7 +3,7 @@ use mathlib.Core.Bool.{Bool, true, false, cond}
 use Prim.Native.Nat.{ℕ, _+_, _-_, _*_, _/_, _^_}
 use lib.Dec.{ltb}
 use lib.Count.{leadingZeros}
-use lib.Ieee.{Float, nan, inf, fin, binary32, up, down, ofBits}
+use lib.Ieee.{Float, nan, inf, fin, binary32, up, down, neg, ofBits}
 
 -- ± a / c + 128 is shifted s a c / c; true is the minus sign
 abbrev pub shifted : Bool → ℕ → ℕ → ℕ
@@ -15,6 +15,11 @@ unfoldable pub signOf : Float → Bool
 signOf nan = false
 signOf (inf s) = s
 signOf (fin s m e) = s
+
+-- r, with its sign turned where s is minus
+abbrev pub withSign : Bool → Float → Float
+withSign true r = neg r
+withSign false r = r
 
 -- t is below 128 in size
 unfoldable pub small : Float → Bool

@@ -1,1 +1,2 @@
+-- Floats in fixed point, as definitions. Assumes nothing.
 pub mod Fixed

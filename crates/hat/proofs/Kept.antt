@@ -3,16 +3,14 @@ use Prim.Native.Nat.{ℕ}
 use mathlib.Core.Bool.{Bool, true, false, not, _&&_, cond}
 use mathlib.Core.List.{List}
 use lib.Dec.{eqb}
-use lib.Ieee.{Float, binary32, neg, le}
-use Rattle.line.proofs.Range.{In}
-use Rattle.float.specs.Consts.{k0, k0p5, kM127p5}
+use lib.Ieee.{le}
+use Rattle.float.specs.Consts.{k0, kM127p5}
 use Rattle.frame.specs.Frame.{bytesAt}
 use Rattle.frame.proofs.Sizes.{Bytes, bytes-in}
 use Rattle.envelope.specs.Record.{modeOf}
 use Rattle.envelope.specs.Moves.{hitOf}
 use Rattle.envelope.specs.Levels.{Level}
 use Rattle.envelope.proofs.Settle.{hit-level}
-use Rattle.power.specs.Power.{exp2Of}
 use Rattle.metal.specs.Metal.{hitDraws}
 use Rattle.metal.proofs.Kept.{Six, hit-in, bank-in}
 use Rattle.wobble.specs.declared.Wobble.{Wobble}

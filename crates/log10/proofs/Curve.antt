@@ -1,8 +1,8 @@
 -- The logarithm keeps its distance: the method's error and the reduction's leave room between the powers of ten moved up and down. Assumes nothing.
 use mathlib.Core.Path.{_≡_, refl, sym, ap, _∙_, subst}
-use mathlib.Core.Bool.{Bool, true, false, not, true≢false}
-use Prim.Native.Nat.{ℕ, zero, suc, _+_, _-_, _*_, _/_, _%_, _^_, _≤_, _<_}
-use native.Mathlib.Nat.{le-trans, le-of-eq, mul-comm, mul-assoc, mul-left-comm, mul-add, add-mul, one-mul, mul-sub, sub-add-cancel, mul-pos, mul-le-mul-left, mul-le-mul-right, le-of-mul-le-mul-right, mod-add-div', mod-lt}
+use mathlib.Core.Bool.{Bool, true, false, true≢false}
+use Prim.Native.Nat.{ℕ, _+_, _-_, _*_, _/_, _%_, _^_, _≤_, _<_}
+use native.Mathlib.Nat.{le-trans, le-of-eq, mul-assoc, add-mul, one-mul, mul-sub, sub-add-cancel, mul-pos, mul-le-mul-right, le-of-mul-le-mul-right, mod-add-div', mod-lt}
 use native.Mathlib.Omega.{arith}
 use lib.Dec.{T, nltb→le, lit<, lit≤}
 use lib.Pow.{pow-pos, pow-add}
@@ -10,23 +10,15 @@ use Rattle.series.specs.Exponential.{expNum, expDen}
 use Rattle.series.proofs.Algebra.{ac, loosen}
 use Rattle.fixed.specs.Fixed.{shifted}
 use Rattle.power.specs.Exact.{sumNum, sumDen, twoNum, twoDen, tenNum, tenDen}
+use Rattle.power.proofs.Numbers.{P, M}
 use Rattle.power.proofs.TwoPower.{twoAt, two-at-is, power-law}
 use Rattle.power.proofs.Moves.{sum-den-pos, rise-across}
 use Rattle.power.proofs.Signs.{two-plus, two-minus}
 use Rattle.log10.specs.Exact.{upSign, upNum, downSign, downNum}
 use Rattle.log10.specs.Log10.{partOf}
 use Rattle.log10.specs.Near.{Between}
-use Rattle.log10.proofs.Method.{method-over, method-under}
-use Rattle.log10.proofs.Rounding.{far-up, far-down}
-
-abbrev P : ℕ
-P = 4294967296
-
-abbrev K : ℕ
-K = 332192809488736
-
-abbrev M : ℕ
-M = 100000000000000
+use Rattle.log10.proofs.Method.{log10-method-over, log10-method-under}
+use Rattle.log10.proofs.Rounding.{K, far-up, far-down}
 
 -- whole powers of two come off
 two-whole : (c n f : ℕ) → 0 < c → twoAt c (n * c + f) ≡ 2 ^ n * twoAt c f
@@ -152,7 +144,7 @@ module _ (e t y z a c v : ℕ) (s : Bool) (el : 1 ≤ e) (tl : t < 8388608) (cp 
   high =
       go (loosen (63000 * 2097152 * 1000027 * 2097152) (63001 * 2097153 * 1000000 * 2097153) 1 1 ((t + 8388608) * E * sumDen C) (2097152 * twoAt C Au) (lit< tt) (lit≤ tt)
       (chain-high 63000 63001 2097152 2097153 1000027 1000000 (t + 8388608) E (sumDen P) (sumDen C) 2097152 (twoAt P (partOf t)) (twoAt P W) (twoAt P 171798) (twoAt P (W + 171798)) (twoAt C Au)
-      D-pos (method-over t tl) U-is (power-law P W 171798 (lit< tt) .1) step-at
+      D-pos (log10-method-over t tl) U-is (power-law P W 171798 (lit< tt) .1) step-at
       (rise-across P (W + 171798) C Au (lit< tt) Cp (far-up a c v over under s room))))
     where
       go : {x y : ℕ} → 1 * x ≤ 1 * y → x ≤ y
@@ -165,7 +157,7 @@ module _ (e t y z a c v : ℕ) (s : Bool) (el : 1 ≤ e) (tl : t < 8388608) (cp 
   low =
       go (loosen (63000 * 2097152 * 1000027 * 2097152) (63001 * 2097153 * 1000000 * 2097153) 1 1 (2097152 * twoAt C Ad) ((t + 8388608) * E * sumDen C) (lit< tt) (lit≤ tt)
       (chain-low 63000 63001 2097152 2097153 1000027 1000000 (t + 8388608) E (sumDen P) (sumDen C) 2097152 (twoAt P (partOf t)) (twoAt P W) (twoAt P 171798) (twoAt P (W - 171798)) (twoAt C Ad)
-      D-pos (method-under t tl) U-is (rw (sub-add-cancel W-big) at (power-law P (W - 171798) 171798 (lit< tt) .1)) step-at
+      D-pos (log10-method-under t tl) U-is (rw (sub-add-cancel W-big) at (power-law P (W - 171798) 171798 (lit< tt) .1)) step-at
       (rise-across C Ad P (W - 171798) Cp (lit< tt) down)))
     where
       go : {x y : ℕ} → 1 * x ≤ 1 * y → x ≤ y

@@ -1,37 +1,24 @@
 -- log10 keeps its distance, for every argument. Assumes nothing.
-use mathlib.Core.Path.{_≡_, refl, sym, ap, _∙_, subst}
+use mathlib.Core.Path.{_≡_, refl, sym}
 use mathlib.Core.Bool.{Bool, true, false, not, cond, true≢false}
 use Prim.Native.Nat.{ℕ, _+_, _-_, _*_, _/_, _%_, _^_, _≤_, _<_}
-use native.Mathlib.Nat.{le-trans, le-of-eq, mul-comm, mul-assoc, mul-le-mul-right, div-mul-le-self, le-of-mul-le-mul-right}
+use native.Mathlib.Nat.{le-trans, le-of-eq, mul-comm, mul-assoc, mul-le-mul-right, le-of-mul-le-mul-right}
 use native.Mathlib.Omega.{arith}
-use lib.IntN.{pos}
 use lib.Dec.{T, leb, leb→le, nleb→lt, lit<}
 use lib.Ieee.{Float, nan, inf, fin, binary32, up, down, le, lt, eq, neg, toBits, fits}
 use lib.Ieee.Bits.{is-true, is-false}
 use lib.Ieee.Positive.{num, den, value→cross}
 use lib.Ieee.Scale.{finite}
 use Rattle.series.specs.Near.{Within}
-use Rattle.fixed.specs.Fixed.{shifted, signOf}
+use Rattle.fixed.specs.Fixed.{shifted, signOf, withSign}
 use Rattle.fixed.proofs.Fields.{down-pos}
 use Rattle.log10.specs.Log10.{log10Two, least, partOf, placeLog, packZero, tenthOf, log10Of}
 use Rattle.log10.specs.Near.{Between, Log10Near}
 use Rattle.log10.proofs.Method.{part-small}
-use Rattle.log10.proofs.Rounding.{pack-zero-near, result-over, result-under}
+use Rattle.log10.proofs.Rounding.{K, log10-rounding, log10-reduction-over, log10-reduction-under}
 use Rattle.log10.proofs.Curve.{between}
 use Rattle.log10.proofs.Fields.{Told, told}
-
-abbrev P : ℕ
-P = 4294967296
-
-abbrev K : ℕ
-K = 332192809488736
-
-abbrev M : ℕ
-M = 100000000000000
-
-abbrev pub withSign : Bool → Float → Float
-withSign true r = neg r
-withSign false r = r
+use Rattle.power.proofs.Numbers.{P, M}
 
 -- what the result is to be
 abbrev Good : Float → Float → Type 0
@@ -63,12 +50,12 @@ module _ (x : Float) (e t : ℕ) (k : Told x e t) (tl : t < 8388608) where
   good s v (inf i) vl p q h = absurd h
   good s v (fin true n i) vl p q h = absurd (true≢false (h .0))
   good true v (fin false n i) vl p q h =
-      let o = result-over v (n * up i) (down i) vl (h .1) (h .2) in
-      let u = result-under v (n * up i) (down i) vl (h .1) (h .2) in
+      let o = log10-reduction-over v (n * up i) (down i) vl (h .1) (h .2) in
+      let u = log10-reduction-under v (n * up i) (down i) vl (h .1) (h .2) in
       unfold neg signOf in (tt, between e t (num x) (den x) (n * up i) (down i) v true (omega (arith, k .low)) tl (down-pos i) value p o u (λ z. (omega (arith, q refl), small-result (n * up i) (down i) v (q refl) o)))
   good false v (fin false n i) vl p q h =
-      let o = result-over v (n * up i) (down i) vl (h .1) (h .2) in
-      let u = result-under v (n * up i) (down i) vl (h .1) (h .2) in
+      let o = log10-reduction-over v (n * up i) (down i) vl (h .1) (h .2) in
+      let u = log10-reduction-under v (n * up i) (down i) vl (h .1) (h .2) in
       unfold signOf in (tt, between e t (num x) (den x) (n * up i) (down i) v false (omega (arith, k .low)) tl (down-pos i) value p o u (λ z. absurd (true≢false (sym z))))
 
   -- the quotient fits 64 bits
@@ -87,13 +74,13 @@ module _ (x : Float) (e t : ℕ) (k : Told x e t) (tl : t < 8388608) where
           let l = f tt in
           let v = w - 127 * P in
           let vl : v ≤ 130 * P = omega (arith, k .high, part-le) in
-          good false v (packZero (v * log10Two / P)) vl (omega arith) (λ z. absurd (true≢false (sym z))) (pack-zero-near (v * log10Two / P) (fits-64 v vl))
+          good false v (packZero (v * log10Two / P)) vl (omega arith) (λ z. absurd (true≢false (sym z))) (log10-rounding (v * log10Two / P) (fits-64 v vl))
       go false f g =
           let l = g tt in
           let v = 127 * P - w in
           let vl : v ≤ 20 * P = omega (arith, k .low) in
           let vm : v ≤ 130 * P = omega arith in
-          good true v (packZero (v * log10Two / P)) vm (omega arith) (λ z. vl) (pack-zero-near (v * log10Two / P) (fits-64 v vm))
+          good true v (packZero (v * log10Two / P)) vm (omega arith) (λ z. vl) (log10-rounding (v * log10Two / P) (fits-64 v vm))
 
 -- ---- every argument
 not-infinite : (x : Float) → T (finite x) → T (not (le (inf false) x))

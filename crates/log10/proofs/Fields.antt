@@ -1,14 +1,14 @@
 -- The fields of a finite float from 10 ^ -6 on: plus, normal, and its exponent's field from 107 to 254. Assumes nothing.
 use mathlib.Core.Path.{_≡_, refl, sym, ap, _∙_, subst}
-use mathlib.Core.Bool.{Bool, true, false, not, cond, true≢false}
+use mathlib.Core.Bool.{Bool, true, false, not, cond}
 use Prim.Native.Nat.{ℕ, zero, suc, _+_, _-_, _*_, _/_, _%_, _^_, _≤_, _<_}
-use native.Mathlib.Nat.{le-trans, le-of-eq, le-of-lt, lt-irrefl, lt-of-lt-of-le, lt-of-le-of-lt, lt-of-not-le, mul-comm, mul-assoc, mul-left-comm, mul-add, add-mul, mul-one, one-mul, add-comm, mul-le-mul, mul-le-mul-left, mul-le-mul-right, mul-lt-mul-of-pos-right, le-of-mul-le-mul-right}
+use native.Mathlib.Nat.{le-trans, le-of-eq, lt-irrefl, lt-of-lt-of-le, lt-of-not-le, mul-one, one-mul, add-comm, mul-le-mul-right, le-of-mul-le-mul-right}
 use native.Mathlib.Omega.{arith}
-use lib.IntN.{ℤ, pos, negsuc}
-use lib.Dec.{T, leb, eqb, nleb→lt, lit<, lit≤}
-use lib.Pow.{pow-pos, pow-mono, shl-lt}
-use lib.Ieee.{Float, nan, inf, fin, binary32, up, down, le, lt, eq, ofBits, toBits, ofFields, fits}
-use lib.Ieee.Bits.{ofBits-toBits, toBits-lt}
+use lib.IntN.{negsuc}
+use lib.Dec.{T, leb, eqb, nleb→lt, lit≤}
+use lib.Pow.{pow-mono, shl-lt}
+use lib.Ieee.{Float, nan, inf, fin, binary32, up, down, le, ofBits, toBits, ofFields, fits}
+use lib.Ieee.Bits.{ofBits-toBits}
 use lib.Ieee.Exact.{HasValue}
 use lib.Ieee.Scale.{finite}
 use Rattle.series.proofs.Algebra.{ac}

@@ -1,3 +1,4 @@
+-- The proofs of log10, lowest first. Assumes nothing.
 pub mod Method
 pub mod Rounding
 pub mod Curve

@@ -1,146 +1,165 @@
 -- The method's error: two to the power of the fixed-point logarithm is the significand to one part in 63000. The stored logarithms are right by a test at all
--- of them; the rest's two terms stay between the two first-order bounds of the exponential; the addition law joins them. Assumes nothing.
-use mathlib.Core.Path.{_≡_, refl, sym, ap, _∙_, subst}
+-- of them; the rest's three terms stay between the two second-order bounds of the exponential; the addition law joins them. Assumes nothing.
+use mathlib.Core.Path.{_≡_, refl, sym, ap, _∙_}
 use mathlib.Core.Bool.{Bool}
-use Prim.Native.Nat.{ℕ, _+_, _-_, _*_, _/_, _%_, _^_, _≤_, _<_}
-use native.Mathlib.Nat.{le-trans, le-of-eq, le-of-lt, le-refl, mul-comm, mul-assoc, mul-left-comm, mul-add, add-mul, one-mul, mul-pos, mul-le-mul, mul-le-mul-left, mul-le-mul-right, le-of-mul-le-mul-right, div-mul-le-self, lt-div-mul-add, sub-add-cancel, sub-le, mul-right-comm}
+use Prim.Native.Nat.{ℕ, zero, suc, _+_, _-_, _*_, _/_, _%_, _≤_, _<_}
+use native.Mathlib.Nat.{le-trans, le-of-eq, le-of-lt, mul-assoc, add-mul, one-mul, mul-pos, add-le-add, mul-le-mul, mul-le-mul-left, mul-le-mul-right, le-of-mul-le-mul-right, div-mul-le-self, lt-div-mul-add, sub-le, mul-right-comm}
 use native.Mathlib.Omega.{arith}
-use lib.Dec.{T, leb, ltb, leb→le, ltb→lt, lit<, lit≤}
+use lib.Dec.{leb, ltb, leb→le, ltb→lt, lit<, lit≤}
 use lib.ListN.{getD}
 use Rattle.series.specs.Exponential.{expNum, expDen}
-use Rattle.series.proofs.Algebra.{ac, loosen}
-use Rattle.series.proofs.Exponential.{linear-le, geometric-le}
+use Rattle.series.proofs.Algebra.{ac, loosen, sub-mul}
+use Rattle.series.proofs.Exponential.{quadratic-le}
+use Rattle.series.proofs.Tail.{quadratic-ge}
 use Rattle.power.specs.Exact.{sumNum, sumDen}
 use Rattle.power.specs.Power.{log2E, productOf}
+use Rattle.power.proofs.Numbers.{P, L, M}
 use Rattle.power.proofs.TwoPower.{twoAt, two-at-is, power-law}
 use Rattle.power.proofs.Moves.{sum-den-pos}
-use Rattle.power.proofs.Table.{every, at}
+use Rattle.power.proofs.Table.{at}
 use Rattle.log10.specs.Log10.{logs, restOf, partOf}
-
-abbrev P : ℕ
-P = 4294967296
-
-abbrev L : ℕ
-L = 69314718055995
-
-abbrev M : ℕ
-M = 100000000000000
 
 -- ---- the stored logarithms
 right-below : ℕ → ℕ → Bool
-right-below j l = leb (2147483648 * (256 * sumNum l P)) (2147483649 * ((256 + j) * sumDen P))
+right-below j l = leb (2147483648 * (64 * sumNum l P)) (2147483649 * ((64 + j) * sumDen P))
 
 right-above : ℕ → ℕ → Bool
-right-above j l = leb (2147483648 * ((256 + j) * sumDen P)) (2147483649 * (256 * sumNum l P))
+right-above j l = leb (2147483648 * ((64 + j) * sumDen P)) (2147483649 * (64 * sumNum l P))
 
-module _ (j : ℕ) (jl : j < 256) where
+module _ (j : ℕ) (jl : j < 64) where
   pub stored-lt : getD logs j 0 < P
-  unfolding logs
   stored-lt = ltb→lt (getD logs j 0) P (at (λ j l. ltb l P) logs tt j jl)
 
-  stored-below : 2147483648 * (256 * sumNum (getD logs j 0) P) ≤ 2147483649 * ((256 + j) * sumDen P)
-  unfolding logs right-below sumNum sumDen expNum expDen
-  stored-below = leb→le (2147483648 * (256 * sumNum (getD logs j 0) P)) (2147483649 * ((256 + j) * sumDen P)) (at right-below logs tt j jl)
+  stored-below : 2147483648 * (64 * sumNum (getD logs j 0) P) ≤ 2147483649 * ((64 + j) * sumDen P)
+  unfolding right-below sumNum sumDen expNum expDen
+  stored-below = leb→le (2147483648 * (64 * sumNum (getD logs j 0) P)) (2147483649 * ((64 + j) * sumDen P)) (at right-below logs tt j jl)
 
-  stored-above : 2147483648 * ((256 + j) * sumDen P) ≤ 2147483649 * (256 * sumNum (getD logs j 0) P)
-  unfolding logs right-above sumNum sumDen expNum expDen
-  stored-above = leb→le (2147483648 * ((256 + j) * sumDen P)) (2147483649 * (256 * sumNum (getD logs j 0) P)) (at right-above logs tt j jl)
+  stored-above : 2147483648 * ((64 + j) * sumDen P) ≤ 2147483649 * (64 * sumNum (getD logs j 0) P)
+  unfolding right-above sumNum sumDen expNum expDen
+  stored-above = leb→le (2147483648 * ((64 + j) * sumDen P)) (2147483649 * (64 * sumNum (getD logs j 0) P)) (at right-above logs tt j jl)
 
 -- ---- the rest: with every number a variable, S / D is about (H + d) / H
-upper-1 : (S D z x y r Q m : ℕ) → 0 < m → y + r ≡ Q → z ≡ Q * m → x ≤ r * m → S * (z - x) ≤ D * z → S * y ≤ D * Q
-upper-1 S D z x y r Q m mp e f h g = le-of-mul-le-mul-right {k = m} (le-trans (le-of-eq (mul-assoc S y m)) (le-trans (mul-le-mul-left S small) (le-trans g (le-of-eq (ap (λ (k : ℕ). D * k) f ∙ sym (mul-assoc D Q m)))))) mp
+-- a m ≤ x: the sum at x / z, over z = Q m, from below
+lower-1 : (S D z x a Q m : ℕ) → 0 < m → z ≡ Q * m → a * m ≤ x → D * (2 * (z * z) + 2 * (z * x) + x * x) ≤ S * (2 * (z * z)) → D * (2 * (Q * Q) + 2 * (Q * a) + a * a) ≤ S * (2 * (Q * Q))
+lower-1 S D z x a Q m mp e h g =
+    le-of-mul-le-mul-right {k = m * m} (le-trans (le-of-eq (left D Q a m)) (le-trans (mul-le-mul-left D (add-le-add (add-le-add (le-of-eq (ap (λ (y : ℕ). 2 * (y * y)) (sym e))) (mul-le-mul-left 2 (mul-le-mul (le-of-eq (sym e)) h))) (mul-le-mul h h))) (le-trans g (le-of-eq (ap (λ (y : ℕ). S * (2 * (y * y))) e ∙ right S Q m))))) (mul-pos mp mp)
   where
-    small : y * m ≤ z - x
-    small = omega (arith, add-mul y r m, ap (λ (k : ℕ). k * m) e)
+    left : (D Q a m : ℕ) → D * (2 * (Q * Q) + 2 * (Q * a) + a * a) * (m * m) ≡ D * (2 * (Q * m * (Q * m)) + 2 * (Q * m * (a * m)) + a * m * (a * m))
+    left D Q a m = simp ac
 
-upper-2 : (S D y r Q H d k : ℕ) → 0 < Q → y + r ≡ Q → k + d ≡ H → r * H ≤ d * Q → S * y ≤ D * Q → S * k ≤ D * H
-upper-2 S D y r Q H d k qp e f h g = le-of-mul-le-mul-right {k = Q} (le-trans (le-of-eq (mul-assoc S k Q)) (le-trans (mul-le-mul-left S small) (le-trans (le-of-eq (sym (mul-assoc S y H))) (le-trans (mul-le-mul-right H g) (le-of-eq (turn D Q H)))))) qp
+    right : (S Q m : ℕ) → S * (2 * (Q * m * (Q * m))) ≡ S * (2 * (Q * Q)) * (m * m)
+    right S Q m = simp ac
+
+-- x ≤ a m: the same from above
+upper-1 : (R S D z x a Q m : ℕ) → 0 < m → z ≡ Q * m → x ≤ a * m → R * (S * (2 * (z * z))) ≤ (R * (2 * (z * z) + 2 * (z * x) + x * x) + x * x) * D → R * (S * (2 * (Q * Q))) ≤ (R * (2 * (Q * Q) + 2 * (Q * a) + a * a) + a * a) * D
+upper-1 R S D z x a Q m mp e h g =
+    le-of-mul-le-mul-right {k = m * m} (le-trans (le-of-eq (sym (right R S Q m) ∙ ap (λ (y : ℕ). R * (S * (2 * (y * y)))) (sym e))) (le-trans g (le-trans (mul-le-mul-right D wide) (le-of-eq (left R D Q a m))))) (mul-pos mp mp)
   where
-    small : k * Q ≤ y * H
-    small = omega (arith, add-mul k d Q, ap (λ (i : ℕ). i * Q) f, add-mul y r H, ap (λ (i : ℕ). i * H) e, mul-comm H Q)
+    wide : R * (2 * (z * z) + 2 * (z * x) + x * x) + x * x ≤ R * (2 * (Q * m * (Q * m)) + 2 * (Q * m * (a * m)) + a * m * (a * m)) + a * m * (a * m)
+    wide = add-le-add (mul-le-mul-left R (add-le-add (add-le-add (le-of-eq (ap (λ (y : ℕ). 2 * (y * y)) e)) (mul-le-mul-left 2 (mul-le-mul (le-of-eq e) h))) (mul-le-mul h h))) (mul-le-mul h h)
 
-    turn : (D Q H : ℕ) → D * Q * H ≡ D * H * Q
-    turn D Q H = simp ac
+    left : (R D Q a m : ℕ) → (R * (2 * (Q * m * (Q * m)) + 2 * (Q * m * (a * m)) + a * m * (a * m)) + a * m * (a * m)) * D ≡ (R * (2 * (Q * Q) + 2 * (Q * a) + a * a) + a * a) * D * (m * m)
+    left R D Q a m = simp ac
 
--- (H - d) (H + d) is H² but for one part in 65536
-upper-3 : (S D H d k : ℕ) → 0 < k → k + d ≡ H → 256 * d ≤ H → S * k ≤ D * H → 65535 * (S * H) ≤ 65536 * (D * (H + d))
-upper-3 S D H d k kp e h g =
-    le-of-mul-le-mul-right {k = k} (le-trans (le-of-eq (left S H k)) (le-trans (mul-le-mul-left (65535 * H) g) (le-trans (le-of-eq (middle D H)) (le-trans (mul-le-mul-left D square) (le-of-eq (right D H d k)))))) kp
+    right : (R S Q m : ℕ) → R * (S * (2 * (Q * m * (Q * m)))) ≡ R * (S * (2 * (Q * Q))) * (m * m)
+    right R S Q m = simp ac
+
+-- the polynomials: with rr = r², aa = a², tt = x²
+poly-lower : (r x a rr aa tt : ℕ) → 2 * P * r ≤ 2 * P * x + rr → 16129 * rr ≤ 16384 * tt → tt ≤ aa + 2 * a + 1 → x ≤ a + 1 → a ≤ r → rr ≤ 67108864 * r → r ≤ 67108864
+    → 65535 * (2 * (P * P) + 2 * (P * (r + 1))) ≤ 65536 * (2 * (P * P) + 2 * (P * a) + aa)
+poly-lower r x a rr aa tt f g h i j k l = omega arith
+
+poly-upper : (r x rr tt : ℕ) → 2 * P * x + rr ≤ 2 * P * r + 11000 * P → tt ≤ rr → rr ≤ 67108864 * r → r ≤ 67108864
+    → 65535 * (191 * (2 * (P * P) + 2 * (P * x) + tt) + tt) ≤ 65536 * (191 * (2 * (P * P) + 2 * (P * r)))
+poly-upper r x rr tt f g h i = omega arith
+
+-- over H
+finish-lower : (m n S D H d r Q w v : ℕ) → 0 < w → w ≡ 2 * (Q * Q) → d * Q ≤ (r + 1) * H → m * (w + 2 * (Q * (r + 1))) ≤ n * v → D * v ≤ S * w → m * (D * (H + d)) ≤ n * (S * H)
+finish-lower m n S D H d r Q w v wp e h k g = le-of-mul-le-mul-right {k = w} (go (r + 1) h k) wp
   where
-    square : 65535 * (H * H) ≤ 65536 * ((H + d) * k)
-    square = go (omega (arith, mul-le-mul h h))
-      where
-        go : 65536 * (d * d) ≤ H * H → 65535 * (H * H) ≤ 65536 * ((H + d) * k)
-        go f = rw (← e) (omega (arith, rw (← e) at f))
+    go : (i : ℕ) → d * Q ≤ i * H → m * (w + 2 * (Q * i)) ≤ n * v → m * (D * (H + d)) * w ≤ n * (S * H) * w
+    go i p q = simp ac (omega (arith, simp ac at (mul-le-mul-right (H * D) q), simp ac at (mul-le-mul-right (n * H) g), simp ac at (mul-le-mul-right (2 * Q * m * D) p), simp ac at (ap (λ (y : ℕ). m * D * d * y) e)))
 
-    left : (S H k : ℕ) → 65535 * (S * H) * k ≡ 65535 * H * (S * k)
-    left S H k = simp ac
-
-    middle : (D H : ℕ) → 65535 * H * (D * H) ≡ D * (65535 * (H * H))
-    middle D H = simp ac
-
-    right : (D H d k : ℕ) → D * (65536 * ((H + d) * k)) ≡ 65536 * (D * (H + d)) * k
-    right D H d k = simp ac
-
-lower-1 : (S D z x t Q m : ℕ) → 0 < m → z ≡ Q * m → t * m ≤ x + m → D * (z + x) ≤ S * z → D * (Q + t) ≤ S * Q + D
-lower-1 S D z x t Q m mp f h g = le-of-mul-le-mul-right {k = m} (go (rw (mul-add D z x) at g)) mp
-  where
-    go : D * z + D * x ≤ S * z → D * (Q + t) * m ≤ (S * Q + D) * m
-    go k = simp ac (omega (arith, simp ac at (mul-le-mul-left D h), rw f at k))
-
-lower-2 : (S D t r Q H d e : ℕ) → r ≤ t + e → d * Q ≤ (r + 1) * H → D * (Q + t) ≤ S * Q + D → Q * (D * (H + d)) ≤ Q * (S * H) + (e + 2) * (D * H)
-lower-2 S D t r Q H d e h k g = simp ac (omega (arith, simp ac at (mul-le-mul-right (D * H) h), simp (ac, one-mul) at (mul-le-mul-right D k), simp ac at (mul-le-mul-right H g)))
-
-lower-3 : (x y z : ℕ) → P * x ≤ P * y + 32770 * z → z ≤ x → 65535 * x ≤ 65536 * y
-lower-3 x y z h k = omega arith
+finish-upper : (m n S D H d r R Q w v : ℕ) → 0 < R * w → w ≡ 2 * (Q * Q) → r * H ≤ d * Q → m * v ≤ n * (R * (w + 2 * (Q * r))) → R * (S * w) ≤ v * D → m * (S * H) ≤ n * (D * (H + d))
+finish-upper m n S D H d r R Q w v wp e h k g =
+    le-of-mul-le-mul-right {k = R * w} (simp ac (omega (arith, simp ac at (mul-le-mul-right (H * D) k), simp ac at (mul-le-mul-right (m * H) g), simp ac at (mul-le-mul-right (2 * Q * n * R * D) h), simp ac at (ap (λ (y : ℕ). n * R * D * d * y) e)))) wp
 
 -- ---- the two together
-join-over : (m₁ m₂ m₃ n₁ n₂ n₃ D S H x u h U G : ℕ) → 0 < h → 0 < D → H ≡ h * G → m₁ * (D * x) ≤ n₁ * (S * H) → m₂ * (h * D) ≤ n₂ * (256 * u) → m₃ * (u * S) ≤ n₃ * (U * D) → m₁ * m₂ * m₃ * (x * D) ≤ n₁ * n₂ * n₃ * (256 * G * U)
+join-over : (m₁ m₂ m₃ n₁ n₂ n₃ D S H x u h U G : ℕ) → 0 < h → 0 < D → H ≡ h * G → m₁ * (D * x) ≤ n₁ * (S * H) → m₂ * (h * D) ≤ n₂ * (64 * u) → m₃ * (u * S) ≤ n₃ * (U * D) → m₁ * m₂ * m₃ * (x * D) ≤ n₁ * n₂ * n₃ * (64 * G * U)
 join-over m₁ m₂ m₃ n₁ n₂ n₃ D S H x u h U G hp dp e h₁ h₂ h₃ =
-    le-of-mul-le-mul-right {k = h * D} (simp ac (omega (arith, simp ac at (mul-le-mul-right m₃ (mul-le-mul (rw e at h₁) h₂)), simp ac at (mul-le-mul-right (n₁ * n₂ * 256 * (h * G)) h₃)))) (mul-pos hp dp)
+    le-of-mul-le-mul-right {k = h * D} (simp ac (omega (arith, simp ac at (mul-le-mul-right m₃ (mul-le-mul (rw e at h₁) h₂)), simp ac at (mul-le-mul-right (n₁ * n₂ * 64 * (h * G)) h₃)))) (mul-pos hp dp)
 
-join-under : (m₁ m₂ m₃ n₁ n₂ n₃ D S H x u h U G : ℕ) → 0 < h → 0 < D → H ≡ h * G → m₁ * (S * H) ≤ n₁ * (D * x) → m₂ * (256 * u) ≤ n₂ * (h * D) → m₃ * (U * D) ≤ n₃ * (u * S) → m₁ * m₂ * m₃ * (256 * G * U) ≤ n₁ * n₂ * n₃ * (x * D)
+join-under : (m₁ m₂ m₃ n₁ n₂ n₃ D S H x u h U G : ℕ) → 0 < h → 0 < D → H ≡ h * G → m₁ * (S * H) ≤ n₁ * (D * x) → m₂ * (64 * u) ≤ n₂ * (h * D) → m₃ * (U * D) ≤ n₃ * (u * S) → m₁ * m₂ * m₃ * (64 * G * U) ≤ n₁ * n₂ * n₃ * (x * D)
 join-under m₁ m₂ m₃ n₁ n₂ n₃ D S H x u h U G hp dp e h₁ h₂ h₃ =
-    le-of-mul-le-mul-right {k = h * D} (simp ac (omega (arith, simp ac at (mul-le-mul-right n₃ (mul-le-mul (rw e at h₁) h₂)), simp ac at (mul-le-mul-right (m₁ * m₂ * 256 * (h * G)) h₃)))) (mul-pos hp dp)
+    le-of-mul-le-mul-right {k = h * D} (simp ac (omega (arith, simp ac at (mul-le-mul-right n₃ (mul-le-mul (rw e at h₁) h₂)), simp ac at (mul-le-mul-right (m₁ * m₂ * 64 * (h * G)) h₃)))) (mul-pos hp dp)
 
 module _ (t : ℕ) (tl : t < 8388608) where
   abbrev d : ℕ
-  d = t % 32768
+  d = t % 131072
 
   abbrev h : ℕ
-  h = 256 + t / 32768
+  h = 64 + t / 131072
 
   abbrev H : ℕ
-  H = h * 32768
+  H = h * 131072
 
   abbrev r : ℕ
-  r = d * 131072 / h
+  r = d * 32768 / h
 
-  r-lo : r * h ≤ d * 131072
-  r-lo = div-mul-le-self (d * 131072) h
+  abbrev s : ℕ
+  s = r * r / P
 
-  r-hi : d * 131072 ≤ (r + 1) * h
-  r-hi = simp (add-mul, one-mul) (le-of-lt (lt-div-mul-add {a = d * 131072} {b = h} (omega arith)))
+  abbrev k : ℕ
+  k = s * r / P / 3
 
-  pub r-small : t % 32768 * 131072 / (256 + t / 32768) ≤ 16777216
+  r-lo : r * h ≤ d * 32768
+  r-lo = div-mul-le-self (d * 32768) h
+
+  r-hi : d * 32768 ≤ (r + 1) * h
+  r-hi = simp (add-mul, one-mul) (le-of-lt (lt-div-mul-add {a = d * 32768} {b = h} (omega arith)))
+
+  pub r-small : t % 131072 * 32768 / (64 + t / 131072) ≤ 67108864
   r-small = le-of-mul-le-mul-right {k = h} (le-trans r-lo (go h (omega arith))) (omega arith)
     where
-      go : (h : ℕ) → 256 ≤ h → d * 131072 ≤ 16777216 * h
+      go : (h : ℕ) → 64 ≤ h → d * 32768 ≤ 67108864 * h
       go h l = omega arith
 
-  pub r-square : t % 32768 * 131072 / (256 + t / 32768) * (t % 32768 * 131072 / (256 + t / 32768)) ≤ 281474976710656
-  r-square = mul-le-mul r-small r-small
+  pub rr : t % 131072 * 32768 / (64 + t / 131072) * (t % 131072 * 32768 / (64 + t / 131072)) ≤ 67108864 * (t % 131072 * 32768 / (64 + t / 131072))
+  rr = mul-le-mul-right r r-small
 
-  pub square-under : t % 32768 * 131072 / (256 + t / 32768) * (t % 32768 * 131072 / (256 + t / 32768)) / 8589934592 ≤ t % 32768 * 131072 / (256 + t / 32768)
-  square-under = le-of-mul-le-mul-right {k = 8589934592} (le-trans (div-mul-le-self (r * r) 8589934592) (mul-le-mul-left r (omega (arith, r-small)))) (lit< tt)
+  s-lo : s * P ≤ r * r
+  s-lo = div-mul-le-self (r * r) P
 
-  pub rest-le : restOf t ≤ t % 32768 * 131072 / (256 + t / 32768)
+  s-hi : r * r ≤ s * P + P
+  s-hi = le-of-lt (lt-div-mul-add {a = r * r} {b = P} (lit< tt))
+
+  pub s-r : 64 * (t % 131072 * 32768 / (64 + t / 131072) * (t % 131072 * 32768 / (64 + t / 131072)) / P) ≤ t % 131072 * 32768 / (64 + t / 131072)
+  s-r = omega (arith, s-lo, rr)
+
+  pub s-small : t % 131072 * 32768 / (64 + t / 131072) * (t % 131072 * 32768 / (64 + t / 131072)) / P ≤ 1048576
+  s-small = omega (arith, s-r, r-small)
+
+  pub sr : t % 131072 * 32768 / (64 + t / 131072) * (t % 131072 * 32768 / (64 + t / 131072)) / P * (t % 131072 * 32768 / (64 + t / 131072)) ≤ t % 131072 * 32768 / (64 + t / 131072) * (t % 131072 * 32768 / (64 + t / 131072)) / P * 67108864
+  sr = mul-le-mul-left s r-small
+
+  k-s : 192 * k ≤ s
+  k-s = omega (arith, sr, div-mul-le-self (s * r) P)
+
+  rest-is : restOf t ≡ r - s / 2 + k
   unfolding restOf
-  rest-le = sub-le r (r * r / 8589934592)
+  rest-is = refl
 
-  rest-ge : r ≤ restOf t + 32768
-  unfolding restOf
-  rest-ge = omega (arith, r-square)
+  pub rest-le : restOf t ≤ t % 131072 * 32768 / (64 + t / 131072)
+  rest-le = rw rest-is (omega (arith, k-s, s-r))
+
+  rest-lower : 2 * P * r ≤ 2 * P * restOf t + r * r
+  rest-lower = rw rest-is (omega (arith, s-lo, s-r))
+
+  rest-upper : 2 * P * restOf t + r * r ≤ 2 * P * r + 11000 * P
+  rest-upper = rw rest-is (omega (arith, s-hi, s-r, k-s, s-small))
+
+  rest-most : 127 * r ≤ 128 * restOf t
+  rest-most = rw rest-is (omega (arith, s-r))
 
   abbrev g : ℕ
   g = productOf (restOf t) log2E
@@ -161,50 +180,61 @@ module _ (t : ℕ) (tl : t < 8388608) where
   exponent-ge : restOf t * M ≤ g * L + M
   exponent-ge = go (restOf t) g (le-trans rest-le r-small) (le-of-lt (lt-div-mul-add {a = restOf t * log2E} {b = P} (lit< tt)))
     where
-      go : (x y : ℕ) → x ≤ 16777216 → x * log2E ≤ y * P + P → x * M ≤ y * L + M
+      go : (x y : ℕ) → x ≤ 67108864 → x * log2E ≤ y * P + P → x * M ≤ y * L + M
       go x y f g = omega arith
 
-  k-pos : 0 < H - d
-  k-pos = omega arith
-
   rH : r * H ≤ d * P
-  rH = omega (arith, mul-le-mul-right 32768 r-lo, mul-assoc r h 32768)
+  rH = omega (arith, mul-le-mul-right 131072 r-lo, mul-assoc r h 131072)
 
   dP : d * P ≤ (r + 1) * H
-  dP = omega (arith, mul-le-mul-right 32768 r-hi, mul-assoc (r + 1) h 32768)
+  dP = omega (arith, mul-le-mul-right 131072 r-hi, mul-assoc (r + 1) h 131072)
 
-  series-hi : 65535 * (sumNum g P * H) ≤ 65536 * (sumDen P * (H + d))
-  unfolding sumNum sumDen
-  series-hi =
-      upper-3 S D H d (H - d) k-pos (omega arith) (omega arith)
-      (upper-2 S D (P - r) r P H d (H - d) (lit< tt) (omega (arith, r-small)) (omega arith) rH
-      (upper-1 S D (P * M) (g * L) (P - r) r P M (lit< tt) (omega (arith, r-small)) refl (le-trans exponent-le (mul-le-mul-right M rest-le)) (geometric-le 11 (g * L) (P * M - g * L) (P * M) (sub-add-cancel within))))
+  -- one unit less than the rest, and still not below
+  abbrev a : ℕ
+  a = restOf t - 1
+
+  a-le : a * M ≤ g * L
+  a-le = go (restOf t) (g * L) exponent-ge
     where
-      within : g * L ≤ P * M
-      within = omega (arith, exponent-le, rest-le, r-small)
+      go : (x y : ℕ) → x * M ≤ y + M → (x - 1) * M ≤ y
+      go x y f = omega (arith, sub-mul x 1 M)
 
   series-lo : 65535 * (sumDen P * (H + d)) ≤ 65536 * (sumNum g P * H)
   unfolding sumNum sumDen
   series-lo =
-      lower-3 (D * (H + d)) (S * H) (D * H)
-      (lower-2 S D (restOf t) r P H d 32768 rest-ge dP (lower-1 S D (P * M) (g * L) (restOf t) P M (lit< tt) refl exponent-ge (linear-le 10 (g * L) (P * M))))
-      (mul-le-mul-left D (omega arith))
+      finish-lower 65535 65536 S D H d r P (2 * (P * P)) (2 * (P * P) + 2 * (P * a) + a * a) (lit< tt) refl dP
+      (poly-lower r (restOf t) a (r * r) (a * a) (restOf t * restOf t) rest-lower (squares r (restOf t) rest-most) (next (restOf t)) (omega arith) (le-trans (sub-le (restOf t) 1) rest-le) rr r-small)
+      (lower-1 S D (P * M) (g * L) a P M (lit< tt) refl a-le (quadratic-le 9 (g * L) (P * M)))
+    where
+      squares : (x y : ℕ) → 127 * x ≤ 128 * y → 16129 * (x * x) ≤ 16384 * (y * y)
+      squares x y f = omega (arith, mul-le-mul f f)
 
-  jl : t / 32768 < 256
+      next : (x : ℕ) → x * x ≤ (x - 1) * (x - 1) + 2 * (x - 1) + 1
+      next zero = omega arith
+      next (suc x) = let e : suc x - 1 ≡ x = omega arith in rw e (omega arith)
+
+  series-hi : 65535 * (sumNum g P * H) ≤ 65536 * (sumDen P * (H + d))
+  unfolding sumNum sumDen
+  series-hi =
+      finish-upper 65535 65536 S D H d r 191 P (2 * (P * P)) (191 * (2 * (P * P) + 2 * (P * restOf t) + restOf t * restOf t) + restOf t * restOf t) (lit< tt) refl rH
+      (poly-upper r (restOf t) (r * r) (restOf t * restOf t) rest-upper (mul-le-mul rest-le rest-le) rr r-small)
+      (upper-1 191 S D (P * M) (g * L) (restOf t) P M (lit< tt) refl exponent-le (quadratic-ge 191 9 (g * L) (P * M) (lit< tt) (omega (arith, exponent-le, rest-le, r-small))))
+
+  jl : t / 131072 < 64
   jl = omega arith
 
   g-small : g < P
   g-small = go (restOf t) g (le-trans rest-le r-small) (div-mul-le-self (restOf t * log2E) P)
     where
-      go : (x y : ℕ) → x ≤ 16777216 → y * P ≤ x * log2E → y < P
+      go : (x y : ℕ) → x ≤ 67108864 → y * P ≤ x * log2E → y < P
       go x y a b = omega arith
 
   pub part-small : partOf t ≤ 8589934592
   unfolding partOf
-  part-small = omega (arith, g-small, stored-lt (t / 32768) jl)
+  part-small = omega (arith, g-small, stored-lt (t / 131072) jl)
 
   abbrev l : ℕ
-  l = getD logs (t / 32768) 0
+  l = getD logs (t / 131072) 0
 
   -- below P a two-power is its sum
   plain : (p : ℕ) → p < P → twoAt P p ≡ sumNum p P
@@ -212,7 +242,7 @@ module _ (t : ℕ) (tl : t < 8388608) where
 
   law : (2097151 * (twoAt P (partOf t) * D) ≤ 2097152 * (sumNum l P * S)) × (2097152 * (sumNum l P * S) ≤ 2097153 * (twoAt P (partOf t) * D))
   unfolding partOf
-  law = rw (plain l (stored-lt (t / 32768) jl), plain g g-small) at (power-law P l g (lit< tt))
+  law = rw (plain l (stored-lt (t / 131072) jl), plain g g-small) at (power-law P l g (lit< tt))
 
   D-pos : 0 < sumDen P
   D-pos = sum-den-pos P (lit< tt)
@@ -220,14 +250,14 @@ module _ (t : ℕ) (tl : t < 8388608) where
   digits : H + d ≡ t + 8388608
   digits = omega arith
 
-  pub method-over : 63000 * ((t + 8388608) * sumDen P) ≤ 63001 * (8388608 * twoAt P (partOf t))
-  method-over =
+  pub log10-method-over : 63000 * ((t + 8388608) * sumDen P) ≤ 63001 * (8388608 * twoAt P (partOf t))
+  log10-method-over =
       rw (← digits)
       (loosen (65535 * 2147483648 * 2097152) (65536 * 2147483649 * 2097153) 63000 63001 ((H + d) * D) (8388608 * twoAt P (partOf t)) (lit< tt) (lit≤ tt)
-      (join-over 65535 2147483648 2097152 65536 2147483649 2097153 D S H (H + d) (sumNum l P) h (twoAt P (partOf t)) 32768 (omega arith) D-pos refl series-lo (stored-above (t / 32768) jl) (law .1)))
+      (join-over 65535 2147483648 2097152 65536 2147483649 2097153 D S H (H + d) (sumNum l P) h (twoAt P (partOf t)) 131072 (omega arith) D-pos refl series-lo (stored-above (t / 131072) jl) (law .1)))
 
-  pub method-under : 63000 * (8388608 * twoAt P (partOf t)) ≤ 63001 * ((t + 8388608) * sumDen P)
-  method-under =
+  pub log10-method-under : 63000 * (8388608 * twoAt P (partOf t)) ≤ 63001 * ((t + 8388608) * sumDen P)
+  log10-method-under =
       rw (← digits)
       (loosen (65535 * 2147483648 * 2097151) (65536 * 2147483649 * 2097152) 63000 63001 (8388608 * twoAt P (partOf t)) ((H + d) * D) (lit< tt) (lit≤ tt)
-      (join-under 65535 2147483648 2097151 65536 2147483649 2097152 D S H (H + d) (sumNum l P) h (twoAt P (partOf t)) 32768 (omega arith) D-pos refl series-hi (stored-below (t / 32768) jl) (law .0)))
+      (join-under 65535 2147483648 2097151 65536 2147483649 2097152 D S H (H + d) (sumNum l P) h (twoAt P (partOf t)) 131072 (omega arith) D-pos refl series-hi (stored-below (t / 131072) jl) (law .0)))

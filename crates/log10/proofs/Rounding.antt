@@ -1,34 +1,27 @@
 -- The reduction's and the rounding's errors: the result, times log2 10, is the fixed-point logarithm to within 10 ^ -5; and so moved up by 2 ^ -16 it lies
 -- 171798 units of Q32 above it, and moved down, below. Assumes nothing.
 use mathlib.Core.Path.{_≡_, refl, sym, ap, _∙_}
-use mathlib.Core.Bool.{Bool, true, false, not, cond}
+use mathlib.Core.Bool.{Bool, true, false, not}
 use Prim.Native.Nat.{ℕ, zero, suc, _+_, _-_, _*_, _/_, _^_, _≤_, _<_}
-use native.Mathlib.Nat.{le-trans, le-add-right, le-of-eq, le-of-lt, mul-comm, mul-assoc, mul-left-comm, mul-add, add-mul, one-mul, sub-add-cancel, mul-pos, mul-le-mul-left, mul-le-mul-right, le-of-mul-le-mul-right, div-mul-le-self, lt-div-mul-add}
+use native.Mathlib.Nat.{le-trans, le-add-right, le-of-eq, le-of-lt, mul-assoc, mul-add, add-mul, one-mul, sub-add-cancel, mul-le-mul-right, le-of-mul-le-mul-right, div-mul-le-self, lt-div-mul-add}
 use native.Mathlib.Omega.{arith}
 use lib.Dec.{T, ltb, eqb·suc-zero, lit<, lit≤, ltb→lt, nltb→le}
-use lib.Ieee.{Float, fin, up, down}
-use lib.Ieee.Bits.{is-false}
 use Rattle.series.specs.Near.{Within}
 use Rattle.series.proofs.Algebra.{ac}
-use Rattle.fixed.specs.Fixed.{shifted, packOf}
+use Rattle.fixed.specs.Fixed.{shifted}
 use Rattle.fixed.proofs.Packs.{packed}
-use Rattle.power.specs.Power.{zeroF}
 use Rattle.log10.specs.Exact.{upSign, upNum, downSign, downNum}
 use Rattle.log10.specs.Log10.{log10Two, packZero}
+use Rattle.power.proofs.Numbers.{P, M}
 
-abbrev P : ℕ
-P = 4294967296
-
-abbrev K : ℕ
+-- log2 10 over 10 ^ 14
+abbrev pub K : ℕ
 K = 332192809488736
 
-abbrev M : ℕ
-M = 100000000000000
-
-pub pack-zero-near : (q : ℕ) → q < 18446744073709551616 → Within (2 ^ 24) q (2 ^ 32) (packZero q)
+pub log10-rounding : (q : ℕ) → q < 18446744073709551616 → Within (2 ^ 24) q (2 ^ 32) (packZero q)
 unfolding packZero
-pack-zero-near zero h = (refl, lit≤ tt, lit≤ tt)
-pack-zero-near (suc q) h = rw (eqb·suc-zero q) (packed (suc q) 32 h (omega arith) (lit≤ tt))
+log10-rounding zero h = (refl, lit≤ tt, lit≤ tt)
+log10-rounding (suc q) h = rw (eqb·suc-zero q) (packed (suc q) 32 h (omega arith) (lit≤ tt))
 
 -- ---- a / c from q / P, and q from v k / P
 product-le : (q v k K M Q : ℕ) → 0 < Q → q * Q ≤ v * k → k * K ≤ Q * M → q * K ≤ v * M
@@ -75,14 +68,14 @@ module _ (v a c : ℕ) (vl : v ≤ 130 * P) (lo : 16777215 * (v * log10Two / P) 
       turn : (v M c : ℕ) → v * M * c ≡ v * (c * M)
       turn v M c = simp ac
 
-  pub result-over : 100000 * (P * (a * K)) ≤ 100000 * (v * (c * M)) + P * (c * M)
-  result-over = atoms-over (P * (a * K)) (v * (c * M)) (P * (c * M)) (q * K * c) (go 16777216 16777217 a q c P K hi) w-le y-le
+  pub log10-reduction-over : 100000 * (P * (a * K)) ≤ 100000 * (v * (c * M)) + P * (c * M)
+  log10-reduction-over = atoms-over (P * (a * K)) (v * (c * M)) (P * (c * M)) (q * K * c) (go 16777216 16777217 a q c P K hi) w-le y-le
     where
       go : (m n a q c Q k : ℕ) → m * a * Q ≤ n * q * c → m * (Q * (a * k)) ≤ n * (q * k * c)
       go m n a q c Q k f = simp ac (simp ac at (mul-le-mul-right k f))
 
-  pub result-under : 100000 * (v * (c * M)) ≤ 100000 * (P * (a * K)) + P * (c * M)
-  result-under = atoms-under (P * (a * K)) (v * (c * M)) (P * (c * M)) (q * K * c) (c * K) (go 16777215 16777216 a q c P K lo) (more 1000000000 1000000001 q v c K M vM) w-le y-le (omega arith)
+  pub log10-reduction-under : 100000 * (v * (c * M)) ≤ 100000 * (P * (a * K)) + P * (c * M)
+  log10-reduction-under = atoms-under (P * (a * K)) (v * (c * M)) (P * (c * M)) (q * K * c) (c * K) (go 16777215 16777216 a q c P K lo) (more 1000000000 1000000001 q v c K M vM) w-le y-le (omega arith)
     where
       go : (m n a q c Q k : ℕ) → m * q * c ≤ n * a * Q → m * (q * k * c) ≤ n * (Q * (a * k))
       go m n a q c Q k f = simp ac (simp ac at (mul-le-mul-right k f))

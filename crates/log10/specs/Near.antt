@@ -1,9 +1,9 @@
 -- What document 01 asks of log10. Assumes nothing.
 use mathlib.Core.Path.{_≡_}
-use mathlib.Core.Bool.{Bool, true, false, not}
+use mathlib.Core.Bool.{Bool, false, not}
 use Prim.Native.Nat.{ℕ, _*_, _≤_}
 use lib.Dec.{T}
-use lib.Ieee.{Float, nan, inf, fin, le}
+use lib.Ieee.{Float, nan, inf, le}
 use lib.Ieee.Positive.{num, den}
 use lib.Ieee.Scale.{finite}
 use Rattle.fixed.specs.Fixed.{signOf}

@@ -21,7 +21,6 @@ use Rattle.frame.specs.Frame.{fieldAt}
 use Rattle.frame.proofs.Sizes.{Bytes, field-in}
 use Rattle.lists.specs.Turns.{turnsOf}
 use Rattle.lists.proofs.Sweep.{turns-keep}
-use Rattle.power.specs.Power.{exp2Of}
 use Rattle.vco.specs.Vco.{advanced}
 use Rattle.wobble.specs.declared.Wobble.{Wobble}
 use Rattle.wobble.specs.Wobble.{phaseOf, detuneOf}

@@ -1,12 +1,12 @@
 -- The three curves keep their distances, for every argument. Assumes nothing.
-use mathlib.Core.Path.{_≡_, refl, sym, ap, _∙_, subst}
+use mathlib.Core.Path.{_≡_, refl, _∙_}
 use mathlib.Core.Bool.{Bool, true, false, not, _&&_, cond}
 use Prim.Native.Nat.{ℕ, _+_, _-_, _*_, _/_, _%_, _^_, _≤_, _<_}
-use native.Mathlib.Nat.{le-of-lt, mul-pos, mul-one, zero-mul, zero-div, mul-comm, mul-assoc, le-trans, mul-le-mul-right}
+use native.Mathlib.Nat.{le-of-lt, mul-pos, mul-one, zero-mul, zero-div}
 use native.Mathlib.Omega.{arith}
 use lib.IntN.{ℤ, pos}
 use lib.Dec.{T, lt→ltb, nltb→le, lit<, lit≤}
-use lib.Ieee.{Float, nan, inf, fin, up, down, lt, le, ne, eq, isNan}
+use lib.Ieee.{Float, nan, inf, fin, up, down, lt, le, ne, eq}
 use lib.Ieee.Bits.{is-true, is-false}
 use lib.Ieee.Fits.{and-i}
 use lib.Ieee.Positive.{num, den}

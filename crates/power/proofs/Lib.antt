@@ -1,7 +1,10 @@
+-- The proofs of the two-power and its kin, lowest first. Assumes nothing.
+pub mod Numbers
 pub mod TwoPower
 pub mod Moves
 pub mod Signs
 pub mod Table
+pub mod Missed
 pub mod Method
 pub mod Rounding
 pub mod Reduction

@@ -1,14 +1,12 @@
 -- The method's error: 2 ^ h in fixed point is the exact sum at h to one part in 2 ^ 25. The roots and the coefficients are right by closed tests; Horner's
 -- lemma gives the series at the last digits, and the addition law joins the two. Assumes nothing.
-use mathlib.Core.Path.{_≡_, refl, sym, ap, ap₂, _∙_, subst}
-use mathlib.Core.Bool.{Bool, _&&_}
-use mathlib.Core.List.{List, [], _∷_}
-use Prim.Native.Nat.{ℕ, suc, _+_, _-_, _*_, _/_, _%_, _^_, _≤_, _<_}
-use native.Mathlib.Nat.{le-refl, le-trans, le-of-eq, le-of-lt, mul-comm, mul-assoc, mul-left-comm, mul-right-comm, mul-add, add-mul, mul-pos, mul-le-mul, mul-le-mul-left, mul-le-mul-right, le-of-mul-le-mul-right, div-mul-le-self, lt-div-mul-add, mod-add-div', pow-suc, add-comm}
+use mathlib.Core.Path.{_≡_, refl, sym, ap, ap₂, _∙_}
+use mathlib.Core.Bool.{Bool}
+use Prim.Native.Nat.{ℕ, _+_, _*_, _/_, _%_, _^_, _≤_, _<_}
+use native.Mathlib.Nat.{le-refl, le-trans, le-of-eq, le-of-lt, mul-comm, mul-add, add-mul, mul-pos, mul-le-mul, mul-le-mul-right, le-of-mul-le-mul-right, div-mul-le-self, lt-div-mul-add, pow-suc}
 use native.Mathlib.Omega.{arith}
 use lib.Dec.{T, leb, leb→le, lit<, lit≤}
-use lib.Ieee.Fits.{and-l, and-r}
-use lib.ListN.{length, getD}
+use lib.ListN.{getD}
 use Rattle.series.specs.Exponential.{expNum, expDen}
 use Rattle.series.specs.Horner.{horner}
 use Rattle.series.proofs.Algebra.{ac}
@@ -18,17 +16,9 @@ use Rattle.series.proofs.Polynomial.{cs, cs-is, length-cs, scale, snoc}
 use Rattle.series.proofs.Tail.{addition}
 use Rattle.power.specs.Exact.{sumNum, sumDen}
 use Rattle.power.specs.Power.{roots, coefs, fractionOf}
+use Rattle.power.proofs.Numbers.{P, L, M}
 use Rattle.power.proofs.Moves.{sum-scale, sum-den-scale, sum-den-pos}
-use Rattle.power.proofs.Table.{every, at}
-
-abbrev P : ℕ
-P = 4294967296
-
-abbrev L : ℕ
-L = 69314718055995
-
-abbrev M : ℕ
-M = 100000000000000
+use Rattle.power.proofs.Table.{at}
 
 -- 32 * 10 ^ 14
 abbrev N : ℕ
@@ -46,19 +36,17 @@ scaled-le x d n k q h = simp ac (simp ac at (mul-le-mul-right k h))
 
 module _ (i : ℕ) (il : i < 32) where
   pub root-lo : 1073741824 ≤ getD roots i 0
-  unfolding roots
   root-lo = leb→le 1073741824 (getD roots i 0) (at (λ i x. leb 1073741824 x) roots tt i il)
 
   pub root-hi : getD roots i 0 ≤ 2101467501
-  unfolding roots
   root-hi = leb→le (getD roots i 0) 2101467501 (at (λ i x. leb x 2101467501) roots tt i il)
 
   below : getD roots i 0 * sumDen 32 ≤ 1073741824 * sumNum i 32
-  unfolding roots cut-below sumNum sumDen expNum expDen
+  unfolding cut-below sumNum sumDen expNum expDen
   below = leb→le (getD roots i 0 * sumDen 32) (1073741824 * sumNum i 32) (at cut-below roots tt i il)
 
   above : 1073741824 * sumNum i 32 ≤ (getD roots i 0 + 1) * sumDen 32
-  unfolding roots cut-above sumNum sumDen expNum expDen
+  unfolding cut-above sumNum sumDen expNum expDen
   above = leb→le (1073741824 * sumNum i 32) ((getD roots i 0 + 1) * sumDen 32) (at cut-above roots tt i il)
 
   -- over the denominator P
@@ -204,15 +192,15 @@ module _ (h : ℕ) (hl : h < P) where
   add : (sumNum h P * sumDen P ≤ sumNum (134217728 * i) P * sumNum g P) × (17179869184 * (sumNum (134217728 * i) P * sumNum g P) ≤ 17179869185 * (sumNum h P * sumDen P))
   add = rw whole at (sum-add (134217728 * i) g P (lit< tt) (omega arith))
 
-  -- the method's error
-  pub method-over : 33554432 * (fractionOf h * sumDen P) ≤ 33554433 * (P * sumNum h P)
-  method-over =
+  -- the method's error of exp2, exp and pow10, which share this core
+  pub power-method-over : 33554432 * (fractionOf h * sumDen P) ≤ 33554433 * (P * sumNum h P)
+  power-method-over =
       loose-le (fractionOf h * sumDen P) (P * sumNum h P)
       (join-le 17179869184 17179869185 (sumDen P) (sumNum (134217728 * i) P) (sumNum g P) (sumNum h P) (getD roots i 0) y (fractionOf h) 1073741824 P (sum-den-pos P (lit< tt)) (lit< tt)
       (root-le i (omega arith)) (series-le g P (lit< tt) refl (omega arith)) (add .1) kept)
 
-  pub method-under : 33554432 * (P * sumNum h P) ≤ 33554433 * (fractionOf h * sumDen P)
-  method-under =
+  pub power-method-under : 33554432 * (P * sumNum h P) ≤ 33554433 * (fractionOf h * sumDen P)
+  power-method-under =
       loose-ge (fractionOf h) (sumDen P) (P * sumNum h P) fraction-lo
       (join-ge (sumDen P) (sumNum (134217728 * i) P) (sumNum g P) (sumNum h P) (getD roots i 0) y (fractionOf h) 1073741824 P 52 120 (sum-den-pos P (lit< tt)) (lit< tt)
       (root-ge i (omega arith)) (series-ge g P (lit< tt) refl (omega arith)) (add .0) (lost (getD roots i 0) y (fractionOf h) (root-hi i (omega arith)) y-hi (le-of-lt cut)))

@@ -1,11 +1,11 @@
 -- The two-power in fixed point never falls: within one root by Horner's rule, and from one root to the next by a test at all of them. Assumes nothing.
-use mathlib.Core.Path.{_≡_, sym, subst}
+use mathlib.Core.Path.{_≡_, subst}
 use mathlib.Core.Logic.{_⊎_, inl, inr}
 use mathlib.Core.Bool.{Bool, true, false, _||_}
 use Prim.Native.Nat.{ℕ, zero, suc, _+_, _-_, _*_, _/_, _%_, _≤_, _<_}
-use native.Mathlib.Nat.{le-refl, le-trans, eq-or-lt-of-le, add-zero, add-suc, mul-comm, mul-le-mul, mul-le-mul-left, mul-le-mul-right, le-of-mul-le-mul-right}
+use native.Mathlib.Nat.{le-refl, le-trans, eq-or-lt-of-le, add-zero, add-suc, mul-le-mul-left, mul-le-mul-right}
 use native.Mathlib.Omega.{arith}
-use lib.Dec.{T, leb, eqb, leb→le, eqb→eq, lit<, lit≤}
+use lib.Dec.{T, leb, eqb, leb→le, eqb→eq, lit<}
 use lib.ListN.{getD}
 use lib.Pow.{shr-mono}
 use Rattle.series.specs.Horner.{horner}
@@ -19,7 +19,7 @@ step-up : ℕ → ℕ → Bool
 step-up i x = eqb i 31 || leb (4389014792 * x) (4294967296 * getD roots (suc i) 0)
 
 next : (i : ℕ) → i < 31 → 4389014792 * getD roots i 0 ≤ 4294967296 * getD roots (suc i) 0
-unfolding roots step-up
+unfolding step-up
 next i h = pick (eqb i 31) (λ t. none (eqb→eq i 31 t)) (at step-up roots tt i (omega arith))
   where
     none : i ≡ 31 → ⊥

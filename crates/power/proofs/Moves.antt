@@ -1,24 +1,18 @@
 -- How the two-power moves when its argument moves a little, over one denominator and over two. It is the addition law with the small step as one part:
 -- the two-power of the step is at least 1, and at most 1 and one part in R. Assumes nothing.
-use mathlib.Core.Path.{_≡_, refl, sym, ap, ap₂, _∙_, subst}
+use mathlib.Core.Path.{_≡_, sym, ap, _∙_, subst}
 use mathlib.Core.Bool.{Bool, true, false, not}
 use Prim.Native.Nat.{ℕ, zero, suc, _+_, _-_, _*_, _/_, _%_, _^_, _≤_, _<_}
-use native.Mathlib.Nat.{le-trans, le-of-eq, le-of-lt, mul-comm, mul-assoc, mul-left-comm, mul-add, add-mul, mul-one, one-mul, mul-pos, mul-le-mul, mul-le-mul-left, mul-le-mul-right, mul-lt-mul-of-pos-left, le-of-mul-le-mul-right, mod-add-div', mod-lt, zero-mul, add-zero, pow-suc, pow-zero}
+use native.Mathlib.Nat.{le-trans, le-of-eq, le-of-lt, mul-comm, mul-assoc, one-mul, mul-pos, mul-le-mul-left, mul-le-mul-right, mul-lt-mul-of-pos-left, le-of-mul-le-mul-right, mod-add-div', mod-lt, zero-mul, pow-suc, pow-zero}
 use native.Mathlib.Omega.{arith}
 use lib.Dec.{T, leb, leb→le, nleb→lt, lit<}
 use lib.Pow.{pow-pos}
-use Rattle.series.specs.Exponential.{expNum, expDen}
 use Rattle.series.proofs.Algebra.{ac}
 use Rattle.series.proofs.Exponential.{num-scale, den-scale, num-zero, num-mono, at-least-one, den-pos}
 use Rattle.series.proofs.Tail.{near-one}
 use Rattle.power.specs.Exact.{sumNum, sumDen}
+use Rattle.power.proofs.Numbers.{L, M}
 use Rattle.power.proofs.TwoPower.{twoAt, two-at-is, power-law}
-
-abbrev L : ℕ
-L = 69314718055995
-
-abbrev M : ℕ
-M = 100000000000000
 
 pub sum-den-pos : (c : ℕ) → 0 < c → 0 < sumDen c
 unfolding sumDen

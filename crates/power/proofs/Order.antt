@@ -3,28 +3,26 @@ use mathlib.Core.Path.{_≡_, refl, sym, ap, _∙_}
 use mathlib.Core.Logic.{_⊎_, inl, inr}
 use mathlib.Core.Bool.{Bool, true, false, true≢false, _&&_}
 use Prim.Native.Nat.{ℕ, _+_, _-_, _*_, _/_, _%_, _^_, _≤_, _<_}
-use native.Mathlib.Nat.{le-refl, le-trans, le-of-eq, eq-or-lt-of-le, mul-comm, mul-assoc, mul-left-comm, mul-add, add-mul, mul-le-mul, mul-le-mul-left, mul-le-mul-right, mod-lt, zero-mul}
+use native.Mathlib.Nat.{le-trans, le-of-eq, eq-or-lt-of-le, mul-comm, mul-assoc, add-mul, mul-le-mul, mul-le-mul-right, mod-lt, zero-mul}
 use native.Mathlib.Omega.{arith}
 use lib.IntN.{ℤ, pos}
-use lib.Dec.{T, lit<, lit≤}
+use lib.Dec.{T, lit<}
 use lib.Pow.{pow-pos, pow-add, pow-mono, shr-mono}
 use lib.Ieee.{Float, nan, inf, fin, up, down, lt, le, eq}
 use lib.Ieee.Bits.{is-true}
 use lib.Ieee.Fits.{and-i}
 use lib.Ieee.Nearest.{div-mono}
 use lib.Ieee.Order.{le-of-values}
-use Rattle.series.proofs.Algebra.{ac, sub-mul}
+use Rattle.series.proofs.Algebra.{sub-mul}
 use Rattle.fixed.specs.Fixed.{shifted, placeOf, sizeOf}
 use Rattle.fixed.proofs.Fields.{down-pos}
 use Rattle.fixed.proofs.Order.{Under, le-says}
-use Rattle.power.specs.Power.{zeroF, exp2Low, exp2High, expLow, log2E, productOf, fractionOf, powerOf, fallOf, exp2Of, expOf}
+use Rattle.power.specs.Power.{zeroF, exp2Low, exp2High, expLow, log2E, productOf, powerOf, fallOf, exp2Of, expOf}
+use Rattle.power.proofs.Numbers.{P}
 use Rattle.power.proofs.Rounding.{digits, digits-lo, digits-hi, power-value}
 use Rattle.power.proofs.Mono.{fraction-mono}
 use Rattle.power.proofs.Curves.{exp2-middle}
 use Rattle.power.proofs.Ranges.{exp2-room, exp-room}
-
-abbrev P : ℕ
-P = 4294967296
 
 digits-mono : (h l : ℕ) → h ≤ l → l < P → digits h ≤ digits l
 digits-mono h l k b = shr-mono 9 (omega (arith, fraction-mono h l k b))

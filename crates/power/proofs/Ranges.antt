@@ -1,15 +1,14 @@
 -- What the code of the curves needs of its numbers: they fit, and a product in two parts is the product. Assumes nothing.
-use mathlib.Core.Path.{_≡_, refl, sym, ap, _∙_}
-use mathlib.Core.Bool.{Bool, true, false}
-use Prim.Native.Nat.{ℕ, _+_, _-_, _*_, _/_, _%_, _^_, _≤_, _<_}
-use native.Mathlib.Nat.{le-trans, le-of-lt, lt-of-le-of-lt, add-mul, mul-right-comm, mul-le-mul, mul-le-mul-left, mul-le-mul-right, le-of-mul-le-mul-right, div-mul-le-self, add-mul-div-right, mod-add-div', add-comm, add-right-comm}
+use mathlib.Core.Path.{_≡_, sym, ap, _∙_}
+use mathlib.Core.Bool.{true, false}
+use Prim.Native.Nat.{ℕ, _+_, _*_, _/_, _%_, _≤_, _<_}
+use native.Mathlib.Nat.{le-trans, le-of-lt, add-mul, mul-right-comm, mul-le-mul, mul-le-mul-left, mul-le-mul-right, le-of-mul-le-mul-right, div-mul-le-self, add-mul-div-right, mod-add-div', add-comm}
 use native.Mathlib.Omega.{arith}
-use lib.IntN.{ℤ, pos}
 use lib.Dec.{T, lt→ltb, lit<, lit≤}
 use lib.Pow.{shr-shr}
 use lib.Ieee.{Float, nan, inf, fin, up, down, lt, le, eq}
 use Rattle.series.specs.Horner.{horner}
-use Rattle.fixed.specs.Fixed.{small, shifted, placeOf, sizeOf}
+use Rattle.fixed.specs.Fixed.{small, placeOf, sizeOf}
 use Rattle.fixed.proofs.Fields.{down-pos}
 use Rattle.power.specs.Power.{zeroF, exp2Low, exp2High, expLow, tenLow, tenHigh, log2E, log2Ten, coefs, productOf}
 use Rattle.power.proofs.Reduction.{spot-lo, spot-hi, product-small}

@@ -1,9 +1,9 @@
 -- The reduction's error: how far the fixed-point argument is from the exact one. It is less than one unit of Q32 for the two-power, and for another base
 -- one unit for the cut of the argument, one for that of the product, and what the base's logarithm lost, once for each whole number. Assumes nothing.
-use mathlib.Core.Path.{_≡_, refl, sym, ap, ap₂, _∙_}
+use mathlib.Core.Path.{_≡_, sym}
 use mathlib.Core.Bool.{Bool, true, false}
-use Prim.Native.Nat.{ℕ, _+_, _-_, _*_, _/_, _%_, _^_, _≤_, _<_}
-use native.Mathlib.Nat.{le-trans, le-of-eq, le-of-lt, mul-comm, mul-assoc, mul-left-comm, mul-add, add-mul, mul-sub, mul-pos, mul-le-mul-left, mul-le-mul-right, le-of-mul-le-mul-right, mul-right-comm, div-mul-le-self, lt-div-mul-add, le-div-iff-mul-le, div-lt-iff-lt-mul}
+use Prim.Native.Nat.{ℕ, _+_, _-_, _*_, _/_, _^_, _≤_, _<_}
+use native.Mathlib.Nat.{le-trans, le-of-eq, le-of-lt, mul-comm, mul-assoc, add-mul, mul-sub, mul-pos, mul-le-mul-left, mul-le-mul-right, le-of-mul-le-mul-right, mul-right-comm, div-mul-le-self, lt-div-mul-add, le-div-iff-mul-le, div-lt-iff-lt-mul}
 use native.Mathlib.Omega.{arith}
 use lib.Dec.{lit<, lit≤}
 use lib.Pow.{pow-pos}
@@ -13,13 +13,11 @@ use Rattle.series.proofs.Nearness.{within-other}
 use Rattle.fixed.specs.Fixed.{shifted}
 use Rattle.power.specs.Exact.{sumDen, twoNum, twoDen}
 use Rattle.power.specs.Power.{powerOf}
+use Rattle.power.proofs.Numbers.{P, M}
 use Rattle.power.proofs.TwoPower.{twoAt}
 use Rattle.power.proofs.Moves.{Ratio, sum-den-pos, reduction}
 use Rattle.power.proofs.Signs.{two-shifted}
 use Rattle.power.proofs.Rounding.{power-near}
-
-abbrev P : ℕ
-P = 4294967296
 
 -- w near ± a / c + 128, at most 50 units of Q32 away
 ratio : (s : Bool) (a c w d : ℕ) → 0 < c → d ≤ 50 → c * w ≤ P * shifted s a c + c * d → P * shifted s a c ≤ c * w + c * d → Ratio (twoAt P w * sumDen c) (twoAt c (shifted s a c) * sumDen P)
@@ -67,10 +65,7 @@ cut-over : (a c : ℕ) → 0 < c → a * P ≤ (a * P / c + 1) * c
 cut-over a c cp = simp add-mul (omega (arith, lt-div-mul-add {a = a * P} cp))
 
 -- ---- a base whose log2 is K / M, and k of Q32, cut, at a number of size at most B
-module _ (K k B : ℕ) (kl : k * 100000000000000 ≤ K * P) (kh : K * P ≤ (k + 1) * 100000000000000) (K4 : K ≤ 4 * 100000000000000) (BK : B * K ≤ 126 * 100000000000000) (Bl : B ≤ 40) where
-  abbrev M : ℕ
-  M = 100000000000000
-
+module _ (K k B : ℕ) (kl : k * M ≤ K * P) (kh : K * P ≤ (k + 1) * M) (K4 : K ≤ 4 * M) (BK : B * K ≤ 126 * M) (Bl : B ≤ 40) where
   Bk : B * k ≤ 126 * P
   Bk = le-of-mul-le-mul-right {k = M} (le-trans (le-of-eq (mul-assoc B k M)) (le-trans (mul-le-mul-left B kl) (le-trans (le-of-eq (sym (mul-assoc B K P))) (le-trans (mul-le-mul-right P BK) (lit≤ tt))))) (lit< tt)
 
@@ -84,7 +79,7 @@ module _ (K k B : ℕ) (kl : k * 100000000000000 ≤ K * P) (kh : K * P ≤ (k +
     pub size-small : a * K ≤ 128 * (c * M)
     size-small = le-trans (mul-le-mul-right K al) (le-trans (le-of-eq (mul-right-comm B c K)) (le-trans (mul-le-mul-right c BK) (omega arith)))
 
-    -- the reduction's error
+    -- the reduction's error of exp (B = 3), of pow10 (B = 37) and of tanh (B = 10): from below none, from above B + 5 units
     base-le : c * M * (a * P / c * k / P) ≤ P * (a * K)
     base-le = product-le a c (a * P / c) k (a * P / c * k / P) K M P (lit< tt) (div-mul-le-self (a * P) c) kl (div-mul-le-self (a * P / c * k) P)
 
@@ -99,8 +94,8 @@ module _ (K k B : ℕ) (kl : k * 100000000000000 ≤ K * P) (kh : K * P ≤ (k +
     place-hi true u h = omega arith
     place-hi false u h = omega arith
 
-    pub base-ratio : (s : Bool) → Ratio (twoAt P (shifted s (a * P / c * k / P) P) * sumDen (c * M)) (twoAt (c * M) (shifted s (a * K) (c * M)) * sumDen P)
-    base-ratio s =
+    pub base-reduction : (s : Bool) → Ratio (twoAt P (shifted s (a * P / c * k / P) P) * sumDen (c * M)) (twoAt (c * M) (shifted s (a * K) (c * M)) * sumDen P)
+    base-reduction s =
         let u = a * P / c * k / P in
         ratio s (a * K) (c * M) (shifted s u P) (1 + B + 4) (mul-pos cp (lit< tt)) (omega arith)
         (shift-over s u (a * K) (c * M) (1 + B + 4) P base-le base-ge)
@@ -109,7 +104,7 @@ module _ (K k B : ℕ) (kl : k * 100000000000000 ≤ K * P) (kh : K * P ≤ (k +
     pub base-near : (s : Bool) → Within (2 ^ 20) (twoNum s (a * K) (c * M)) (twoDen s (a * K) (c * M)) (powerOf (shifted s (a * P / c * k / P) P))
     base-near s =
         let u = a * P / c * k / P in
-        signed-near s (a * K) (c * M) (shifted s u P) (mul-pos cp (lit< tt)) size-small (place-lo s u product-small) (place-hi s u product-small) (base-ratio s)
+        signed-near s (a * K) (c * M) (shifted s u P) (mul-pos cp (lit< tt)) size-small (place-lo s u product-small) (place-hi s u product-small) (base-reduction s)
 
 -- ---- the two-power itself: w is ± a / c + 128, cut
 module _ (s : Bool) (a c : ℕ) (cp : 0 < c) (lo : 2 * c ≤ shifted s a c) (hi : shifted s a c < 255 * c) where

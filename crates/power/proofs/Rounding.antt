@@ -3,11 +3,11 @@
 use mathlib.Core.Path.{_≡_, refl, sym, ap, _∙_}
 use mathlib.Core.Bool.{false}
 use Prim.Native.Nat.{ℕ, _+_, _-_, _*_, _/_, _%_, _^_, _≤_, _<_}
-use native.Mathlib.Nat.{le-trans, le-of-eq, mul-comm, mul-assoc, mul-left-comm, mul-add, add-mul, mul-pos, mul-le-mul-right, le-of-mul-le-mul-right, mod-lt, le-div-iff-mul-le, div-lt-iff-lt-mul}
+use native.Mathlib.Nat.{mul-assoc, mul-pos, mul-le-mul-right, le-of-mul-le-mul-right, mod-lt}
 use native.Mathlib.Omega.{arith}
 use lib.Dec.{lit<, lit≤}
 use lib.Pow.{pow-pos, pow-add}
-use lib.Ieee.{Float, binary32, ofBits}
+use lib.Ieee.{binary32, ofBits}
 use lib.Ieee.Exact.{HasValue}
 use Rattle.series.specs.Near.{Within}
 use Rattle.series.proofs.Algebra.{ac, loosen}
@@ -16,12 +16,10 @@ use Rattle.fixed.proofs.Fields.{pattern-carry, value-other}
 use Rattle.fixed.proofs.Powers.{scale-exact}
 use Rattle.power.specs.Exact.{sumNum, sumDen}
 use Rattle.power.specs.Power.{fractionOf, significandOf, powerOf}
+use Rattle.power.proofs.Numbers.{P}
 use Rattle.power.proofs.TwoPower.{twoAt}
 use Rattle.power.proofs.Moves.{Ratio, sum-den-pos}
-use Rattle.power.proofs.Method.{fraction-lo, fraction-hi, method-over, method-under}
-
-abbrev P : ℕ
-P = 4294967296
+use Rattle.power.proofs.Method.{fraction-lo, fraction-hi, power-method-over, power-method-under}
 
 -- ---- 24 digits
 abbrev pub digits : ℕ → ℕ
@@ -33,12 +31,12 @@ digits-lo h l = omega (arith, fraction-lo h l)
 pub digits-hi : (h : ℕ) → h < P → digits h ≤ 16777216
 digits-hi h l = omega (arith, fraction-hi h l)
 
--- the rounding's error
-rounding-over : (h : ℕ) → h < P → 16777216 * (512 * digits h) ≤ 16777217 * fractionOf h
-rounding-over h l = omega (arith, fraction-lo h l)
+-- the rounding's error of exp2, exp and pow10: the significand to 24 digits. The product with the power of two adds none
+power-rounding-over : (h : ℕ) → h < P → 16777216 * (512 * digits h) ≤ 16777217 * fractionOf h
+power-rounding-over h l = omega (arith, fraction-lo h l)
 
-rounding-under : (h : ℕ) → h < P → 16777216 * fractionOf h ≤ 16777217 * (512 * digits h)
-rounding-under h l = omega (arith, fraction-lo h l)
+power-rounding-under : (h : ℕ) → h < P → 16777216 * fractionOf h ≤ 16777217 * (512 * digits h)
+power-rounding-under h l = omega (arith, fraction-lo h l)
 
 significand-value : (h : ℕ) → h < P → HasValue (significandOf h) false (digits h) (2 ^ 23)
 unfolding significandOf
@@ -98,7 +96,7 @@ power-near w c A lo hi r =
     within-value 1048576 (twoAt c A) (2 ^ 128 * sumDen c) (q * e) (2 ^ 150) (powerOf w) (pow-pos 150) (power-value w lo hi)
     (lift-under 1048575 1048576 (twoAt c A) (2 ^ 128) 4194304 q e (sumDen c)
     (loosen (1900000 * 33554432 * 16777216) (1900001 * 33554433 * 16777217) 1048575 1048576 (twoAt c A * 4194304) (q * e * sumDen c) (lit< tt) (lit≤ tt)
-    (join-under 1900000 33554432 16777216 1900001 33554433 16777217 (twoAt c A) (sumDen P) (sumDen c) e (sumNum x P) (fractionOf x) q 512 4194304 (sum-den-pos P (lit< tt)) (lit< tt) (k .under) (method-under x hl) (rounding-under x hl))))
+    (join-under 1900000 33554432 16777216 1900001 33554433 16777217 (twoAt c A) (sumDen P) (sumDen c) e (sumNum x P) (fractionOf x) q 512 4194304 (sum-den-pos P (lit< tt)) (lit< tt) (k .under) (power-method-under x hl) (power-rounding-under x hl))))
     (lift-over 1048577 1048576 (twoAt c A) (2 ^ 128) 4194304 q e (sumDen c)
     (loosen (1900000 * 33554432 * 16777216) (1900001 * 33554433 * 16777217) 1048576 1048577 (q * e * sumDen c) (twoAt c A * 4194304) (lit< tt) (lit≤ tt)
-    (join-over 1900000 33554432 16777216 1900001 33554433 16777217 (twoAt c A) (sumDen P) (sumDen c) e (sumNum x P) (fractionOf x) q 512 4194304 (sum-den-pos P (lit< tt)) (lit< tt) (k .over) (method-over x hl) (rounding-over x hl))))
+    (join-over 1900000 33554432 16777216 1900001 33554433 16777217 (twoAt c A) (sumDen P) (sumDen c) e (sumNum x P) (fractionOf x) q 512 4194304 (sum-den-pos P (lit< tt)) (lit< tt) (k .over) (power-method-over x hl) (power-rounding-over x hl))))

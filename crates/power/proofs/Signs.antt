@@ -1,10 +1,9 @@
 -- The exact two-power of ± a / c is twoAt at ± a / c + 128, over 2 ^ 128. Assumes nothing.
-use mathlib.Core.Path.{_≡_, sym, ap, _∙_}
+use mathlib.Core.Path.{_≡_, ap, _∙_}
 use mathlib.Core.Bool.{Bool, true, false}
 use Prim.Native.Nat.{ℕ, _+_, _-_, _*_, _/_, _%_, _^_, _≤_, _<_}
-use native.Mathlib.Nat.{mul-comm, mul-assoc, mul-left-comm, mul-add, add-mul, mul-one, one-mul, mul-pos, mod-add-div', mod-lt, div-mul-le-self, lt-div-mul-add, le-of-mul-le-mul-right, lt-of-mul-lt-mul-right, mul-le-mul-right}
+use native.Mathlib.Nat.{add-mul, one-mul, mod-add-div', mod-lt, div-mul-le-self, lt-div-mul-add, lt-of-mul-lt-mul-right}
 use native.Mathlib.Omega.{arith}
-use lib.Dec.{lit<}
 use lib.Pow.{pow-add}
 use Rattle.series.proofs.Algebra.{ac}
 use Rattle.fixed.specs.Fixed.{shifted}

@@ -1,9 +1,9 @@
 -- The two-power of fractions turns sums into products, to one part in 2 ^ 21, also where the whole part jumps. It is the addition law of its sum, with
 -- the sum at 1 being 2 to one part in 2 ^ 24. Assumes nothing.
-use mathlib.Core.Path.{_≡_, refl, sym, ap, ap₂, _∙_}
+use mathlib.Core.Path.{_≡_, sym, ap, ap₂, _∙_}
 use mathlib.Core.Bool.{Bool, true, false, not}
 use Prim.Native.Nat.{ℕ, _+_, _-_, _*_, _/_, _%_, _^_, _≤_, _<_}
-use native.Mathlib.Nat.{le-trans, le-of-eq, mul-comm, mul-assoc, mul-left-comm, mul-add, add-mul, mul-one, mul-pos, mul-le-mul-right, add-mul-div-right, add-mul-mod-self-right, mod-eq-of-lt, div-eq-of-lt, zero-add, mod-add-div', mod-lt}
+use native.Mathlib.Nat.{le-trans, le-of-eq, mul-comm, mul-assoc, add-mul, mul-one, mul-pos, mul-le-mul-right, add-mul-div-right, add-mul-mod-self-right, mod-eq-of-lt, div-eq-of-lt, zero-add, mod-add-div', mod-lt}
 use native.Mathlib.Omega.{arith}
 use lib.Dec.{T, ltb, ltb→lt, nltb→le, lit<, lit≤}
 use lib.Pow.{pow-add}
@@ -12,12 +12,7 @@ use Rattle.series.proofs.Algebra.{ac}
 use Rattle.series.proofs.Exponential.{num-scale, den-scale}
 use Rattle.series.proofs.Tail.{addition}
 use Rattle.power.specs.Exact.{sumNum, sumDen}
-
-abbrev L : ℕ
-L = 69314718055995
-
-abbrev M : ℕ
-M = 100000000000000
+use Rattle.power.proofs.Numbers.{L, M}
 
 -- two to the power A / c is twoAt c A / sumDen c
 unfoldable pub twoAt : ℕ → ℕ → ℕ

@@ -1,8 +1,8 @@
 -- The two-power of a whole number is exact: its rest is 0, so that its digits are 2 ^ 23. Assumes nothing.
-use mathlib.Core.Path.{_≡_, refl, sym, ap, ap₂, _∙_, subst}
+use mathlib.Core.Path.{_≡_, refl, sym, ap, _∙_}
 use mathlib.Core.Bool.{Bool, true, false}
 use Prim.Native.Nat.{ℕ, _+_, _-_, _*_, _/_, _%_, _^_, _≤_, _<_}
-use native.Mathlib.Nat.{mul-comm, mul-assoc, mul-left-comm, mul-add, add-mul, mul-right-comm, mul-div-cancel, mul-mod-left, zero-add, mod-add-div', eq-of-mul-eq-mul-right, lt-of-mul-lt-mul-right, le-of-mul-le-mul-right}
+use native.Mathlib.Nat.{add-mul, mul-right-comm, mul-div-cancel, mul-mod-left, zero-add, mod-add-div', eq-of-mul-eq-mul-right, lt-of-mul-lt-mul-right, le-of-mul-le-mul-right}
 use native.Mathlib.Omega.{arith}
 use lib.Dec.{lit<}
 use lib.Pow.{pow-pos, pow-add}
@@ -11,18 +11,16 @@ use Rattle.series.specs.Horner.{horner}
 use Rattle.series.proofs.Algebra.{ac, sub-mul}
 use Rattle.fixed.specs.Fixed.{shifted}
 use Rattle.fixed.proofs.Fields.{value-other}
-use Rattle.power.specs.Exact.{sumNum, sumDen, twoNum, twoDen}
-use Rattle.power.specs.Power.{roots, fractionOf, powerOf}
+use Rattle.power.specs.Exact.{sumDen, twoNum, twoDen}
+use Rattle.power.specs.Power.{fractionOf, powerOf}
+use Rattle.power.proofs.Numbers.{P}
 use Rattle.power.proofs.TwoPower.{twoAt, two-at-is}
 use Rattle.power.proofs.Moves.{sum-den-pos, sum-zero}
 use Rattle.power.proofs.Signs.{two-shifted}
 use Rattle.power.proofs.Rounding.{digits, power-value}
 
-abbrev P : ℕ
-P = 4294967296
-
 digits-zero : digits 0 ≡ 8388608
-unfolding fractionOf horner roots
+unfolding fractionOf horner
 digits-zero = refl
 
 -- ± n c / c + 128

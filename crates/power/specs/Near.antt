@@ -1,7 +1,7 @@
 -- What document 01 asks of the three curves. Assumes nothing.
 use mathlib.Core.Path.{_≡_}
 use mathlib.Core.Bool.{false, not, _&&_}
-use Prim.Native.Nat.{ℕ, _%_, _^_}
+use Prim.Native.Nat.{_%_, _^_}
 use lib.Dec.{T}
 use lib.Ieee.{Float, nan, inf, lt, le}
 use lib.Ieee.Exact.{HasValue}

@@ -9,7 +9,7 @@ use Rattle.series.specs.Horner.{horner}
 use Rattle.fixed.specs.Fixed.{placeOf, sizeOf, twoTo}
 
 -- 2 ^ (i / 32) in Q30, cut
-unfoldable pub roots : List ℕ
+abbrev pub roots : List ℕ
 roots =
     1073741824 ∷ 1097253708 ∷ 1121280435 ∷ 1145833280 ∷ 1170923761 ∷ 1196563653 ∷ 1222764985 ∷ 1249540052
     ∷ 1276901416 ∷ 1304861916 ∷ 1333434672 ∷ 1362633089 ∷ 1392470868 ∷ 1422962010 ∷ 1454120821 ∷ 1485961920
@@ -43,6 +43,7 @@ log2E = 6196328018
 abbrev pub log2Ten : ℕ
 log2Ten = 14267572527
 
+-- plus zero
 abbrev pub zeroF : Float
 zeroF = fin false 0 (pos 0)
 
@@ -62,18 +63,21 @@ tenLow = fin true 37 (pos 0)
 abbrev pub tenHigh : Float
 tenHigh = fin false 37 (pos 0)
 
+-- exp2: 0 below -126, infinity from 127 on, and between them the power of the argument's place
 unfoldable pub exp2Of : Float → Float
 exp2Of t = cond (ne t t) nan (cond (lt t exp2Low) zeroF (cond (le exp2High t) (inf false) (powerOf (placeOf t))))
 
--- the power below 1, and above, of a base whose log2 is k in Q32
+-- a base whose log2 is k in Q32, to the power of a number below 0, and of one above
 unfoldable pub fallOf : ℕ → Float → Float
 fallOf k t = powerOf (2 ^ 39 - productOf (sizeOf t) k)
 
 unfoldable pub riseOf : ℕ → Float → Float
 riseOf k t = powerOf (2 ^ 39 + productOf (sizeOf t) k)
 
+-- exp: from -3 to 0, elsewhere not a number
 unfoldable pub expOf : Float → Float
 expOf t = cond (le expLow t && le t zeroF) (fallOf log2E t) nan
 
+-- the power of ten: 0 below -37, infinity above 37
 unfoldable pub pow10Of : Float → Float
 pow10Of t = cond (ne t t) nan (cond (lt t tenLow) zeroF (cond (lt tenHigh t) (inf false) (cond (lt t zeroF) (fallOf log2Ten t) (riseOf log2Ten t))))

@@ -1,7 +1,7 @@
 -- The addition law of the truncated exponential: S n (x + y) ≤ S n x * S n y ≤ S (2 n) (x + y). Assumes nothing.
-use mathlib.Core.Path.{_≡_, refl, sym, ap, ap₂, _∙_, subst, subst₂}
+use mathlib.Core.Path.{_≡_, sym, ap, _∙_}
 use Prim.Native.Nat.{ℕ, zero, suc, _+_, _-_, _*_, _^_, _≤_, _<_}
-use native.Mathlib.Nat.{le-trans, le-of-eq, le-refl, mul-comm, mul-assoc, mul-left-comm, mul-add, add-mul, mul-one, one-mul, zero-add, add-zero, add-suc, suc-add, sub-self, sub-zero, pow-zero, pow-suc, mul-pos, le-of-mul-le-mul-right, mul-le-mul-right, add-sub-cancel-left, le-add-right}
+use native.Mathlib.Nat.{le-refl, mul-comm, mul-assoc, mul-one, one-mul, zero-add, add-zero, add-suc, suc-add, sub-self, sub-zero, pow-zero, pow-suc, mul-pos, le-of-mul-le-mul-right, mul-le-mul-right, add-sub-cancel-left, le-add-right}
 use native.Mathlib.Omega.{arith}
 use lib.Dec.{lit<}
 use Rattle.series.specs.Exponential.{expNum, expDen}

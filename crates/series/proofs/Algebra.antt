@@ -1,7 +1,7 @@
 -- Products brought into one order, and a few laws of powers and differences. Assumes nothing.
 use mathlib.Core.Path.{_≡_, ap₂, _∙_}
 use Prim.Native.Nat.{ℕ, zero, suc, _-_, _*_, _^_, _≤_, _<_}
-use native.Mathlib.Nat.{le-of-lt, lt-irrefl, lt-of-lt-of-le, lt-of-le-of-lt, lt-of-not-le, le-of-suc-le-suc, mul-lt-mul-of-pos-right, mul-le-mul-left, mul-le-mul-right, le-of-mul-le-mul-right, mul-mul-mul-comm, mul-comm, mul-assoc, mul-left-comm, mul-add, add-mul, mul-sub, pow-suc, pow-zero}
+use native.Mathlib.Nat.{mul-le-mul-right, le-of-mul-le-mul-right, mul-mul-mul-comm, mul-comm, mul-assoc, mul-left-comm, mul-add, add-mul, mul-sub, pow-suc, pow-zero}
 use native.Mathlib.Omega.{arith}
 
 -- sums of products, the factors sorted
@@ -13,10 +13,6 @@ mul-pow a b (suc n) = rw (pow-suc (a * b) n, pow-suc a n, pow-suc b n, mul-pow a
 
 pub sub-mul : (m n k : ℕ) → (m - n) * k ≡ m * k - n * k
 sub-mul m n k = mul-comm (m - n) k ∙ mul-sub k m n ∙ ap₂ (λ (x y : ℕ). x - y) (mul-comm k m) (mul-comm k n)
-
--- squares keep the order
-pub root-le : (a b : ℕ) → a * a ≤ b * b → a ≤ b
-root-le a b h = le-of-suc-le-suc (lt-of-not-le (λ (g : suc b ≤ a). lt-irrefl (b * b) (lt-of-lt-of-le (lt-of-le-of-lt (mul-le-mul-left b (le-of-lt g)) (mul-lt-mul-of-pos-right g (lt-of-le-of-lt (omega arith) g))) h)))
 
 -- x ≤ n / m y, and n / m ≤ b / B
 pub loosen : (m n B b x y : ℕ) → 0 < m → B * n ≤ b * m → m * x ≤ n * y → B * x ≤ b * y

@@ -1,7 +1,7 @@
 -- The truncated exponential at 0, scaled, and in order. Assumes nothing.
 use mathlib.Core.Path.{_≡_, refl, ap}
 use Prim.Native.Nat.{ℕ, zero, suc, _+_, _-_, _*_, _^_, _≤_, _<_}
-use native.Mathlib.Nat.{le-refl, le-trans, le-of-eq, le-add-right, mul-comm, mul-assoc, mul-left-comm, mul-add, add-mul, mul-one, one-mul, mul-zero, add-zero, pow-zero, pow-suc, pow-le-pow-left, mul-pos, mul-le-mul-right, add-le-add}
+use native.Mathlib.Nat.{le-refl, le-trans, le-of-eq, le-add-right, mul-comm, mul-add, mul-one, one-mul, mul-zero, add-zero, pow-zero, pow-suc, pow-le-pow-left, mul-pos, mul-le-mul-right, add-le-add}
 use native.Mathlib.Omega.{arith}
 use lib.Dec.{lit<}
 use Rattle.series.specs.Exponential.{expNum, expDen}
@@ -48,17 +48,39 @@ den-scale M c (suc n) = rw (den-scale M c n, pow-suc c n) (den-step (expDen n M)
 pub den-pow : (n z : ℕ) → expDen n z ≡ expDen n 1 * z ^ n
 den-pow n z = rw (mul-one z) at (den-scale 1 z n)
 
--- ---- the first order: 1 + x ≤ the sum ≤ 1 / (1 - x)
-linear-step : (d e m x z X : ℕ) → d * (z + x) ≤ e * z → d * (m * z) * (z + x) ≤ (e * (m * z) + X) * z
-linear-step d e m x z X h = simp ac (omega (arith, simp ac at (mul-le-mul-right (m * z) h)))
+-- ---- the second order, from below: 1 + x + x² / 2 ≤ the sum
+quadratic-step : (d e m q w z X : ℕ) → d * q ≤ e * w → d * (m * z) * q ≤ (e * (m * z) + X) * w
+quadratic-step d e m q w z X h = simp ac (omega (arith, simp ac at (mul-le-mul-right (m * z) h)))
 
-pub linear-le : (n x z : ℕ) → expDen (suc n) z * (z + x) ≤ expNum (suc n) x z * z
-unfolding expNum expDen
-linear-le zero x z = rw (pow-suc x 0, pow-zero x) (start x z)
+pub quadratic-is : (x z : ℕ) → expNum 2 x z ≡ 2 * (z * z) + 2 * (z * x) + x * x
+unfolding expNum
+quadratic-is x z = rw (pow-suc x 1, pow-suc x 0, pow-zero x) (go x z)
   where
-    start : (x z : ℕ) → 1 * (1 * z) * (z + x) ≤ (1 * (1 * z) + 1 * x) * z
-    start x z = simp (ac, one-mul) (omega arith)
-linear-le (suc n) x z = linear-step (expDen (suc n) z) (expNum (suc n) x z) (suc (suc n)) x z (x ^ suc (suc n)) (linear-le n x z)
+    go : (x z : ℕ) → (1 * (1 * z) + 1 * x) * (2 * z) + 1 * x * x ≡ 2 * (z * z) + 2 * (z * x) + x * x
+    go x z = omega arith
+
+pub quadratic-den : (z : ℕ) → expDen 2 z ≡ 2 * (z * z)
+unfolding expDen
+quadratic-den z = omega arith
+
+one-more : (n x z q w : ℕ) → expDen n z * q ≤ expNum n x z * w → expDen (suc n) z * q ≤ expNum (suc n) x z * w
+unfolding expNum expDen
+one-more n x z q w h = quadratic-step (expDen n z) (expNum n x z) (suc n) q w z (x ^ suc n) h
+
+pub quadratic-le : (n x z : ℕ) → expDen (suc (suc n)) z * (2 * (z * z) + 2 * (z * x) + x * x) ≤ expNum (suc (suc n)) x z * (2 * (z * z))
+quadratic-le zero x z = rw (quadratic-is x z, quadratic-den z) (le-of-eq (mul-comm (2 * (z * z)) (2 * (z * z) + 2 * (z * x) + x * x)))
+quadratic-le (suc n) x z = one-more (suc (suc n)) x z (2 * (z * z) + 2 * (z * x) + x * x) (2 * (z * z)) (quadratic-le n x z)
+
+-- ---- the first order: 1 + x ≤ the sum ≤ 1 / (1 - x)
+pub linear-le : (n x z : ℕ) → expDen (suc n) z * (z + x) ≤ expNum (suc n) x z * z
+linear-le zero x z = start x z
+  where
+    start : (x z : ℕ) → expDen 1 z * (z + x) ≤ expNum 1 x z * z
+    start x z = unfold expNum expDen in rw (pow-suc x 0, pow-zero x) (go x z)
+      where
+        go : (x z : ℕ) → 1 * (1 * z) * (z + x) ≤ (1 * (1 * z) + 1 * x) * z
+        go x z = simp (ac, one-mul) (omega arith)
+linear-le (suc n) x z = one-more (suc n) x z (z + x) z (linear-le n x z)
 
 -- with n! x ^ (n + 1) to spare
 geometric-step : (d e f m x z X : ℕ) → x ≤ z → 1 ≤ f * m → e * z + f * X ≤ e * x + d * z → (e * (m * z) + X) * z + f * m * (X * x) ≤ (e * (m * z) + X) * x + d * (m * z) * z

@@ -1,10 +1,9 @@
 -- Horner's rule in fixed point against the exact polynomial: one more term adds to the error what the coefficient, the argument and the product lose.
 -- The coefficients are compared by one closed test, `fit`. Assumes nothing.
-use mathlib.Core.Path.{_≡_, refl, sym, ap, _∙_, subst}
-use Prim.Native.Nat.{ℕ, zero, suc, _+_, _*_, _/_, _^_, _≤_, _<_}
+use Prim.Native.Nat.{ℕ, _+_, _*_, _/_, _^_, _≤_, _<_}
 use mathlib.Core.List.{List, [], _∷_}
-use mathlib.Core.Bool.{Bool, true, false, _&&_}
-use native.Mathlib.Nat.{le-refl, le-trans, le-of-lt, zero-add, le-add-right, mul-comm, mul-assoc, mul-left-comm, mul-add, add-mul, mul-zero, zero-mul, pow-suc, pow-zero, mul-le-mul, mul-le-mul-left, mul-le-mul-right, add-le-add, div-mul-le-self, le-of-mul-le-mul-right, lt-div-mul-add}
+use mathlib.Core.Bool.{Bool, false, _&&_}
+use native.Mathlib.Nat.{le-refl, le-trans, le-of-lt, zero-add, le-add-right, zero-mul, pow-suc, mul-le-mul, mul-le-mul-left, mul-le-mul-right, add-le-add, div-mul-le-self, le-of-mul-le-mul-right, lt-div-mul-add}
 use native.Mathlib.Omega.{arith}
 use lib.ListN.{length}
 use lib.Dec.{T, leb, leb→le}

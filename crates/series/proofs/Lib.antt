@@ -1,3 +1,4 @@
+-- Laws of the series, lowest first. Assumes nothing.
 pub mod Algebra
 pub mod Exponential
 pub mod Horner
@@ -5,5 +6,4 @@ pub mod Polynomial
 pub mod Sums
 pub mod Addition
 pub mod Tail
-pub mod Alternating
 pub mod Nearness

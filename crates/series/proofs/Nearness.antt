@@ -1,12 +1,12 @@
 -- Nearness of a float to a fraction, by any fraction that the float equals, and to the same fraction written otherwise. Assumes nothing.
-use mathlib.Core.Path.{_≡_, sym, ap}
+use mathlib.Core.Path.{_≡_, ap}
 use mathlib.Core.Bool.{Bool, true, false, not}
 use Prim.Native.Nat.{ℕ, _+_, _-_, _*_, _≤_, _<_}
-use native.Mathlib.Nat.{mul-comm, mul-assoc, mul-left-comm, mul-add, add-mul, mul-one, one-mul, add-sub-cancel, le-of-mul-le-mul-right, mul-le-mul-right}
+use native.Mathlib.Nat.{mul-assoc, one-mul, add-sub-cancel, le-of-mul-le-mul-right, mul-le-mul-right}
 use native.Mathlib.Omega.{arith}
 use lib.Ieee.{Float, nan, inf, fin, up, down, neg}
 use lib.Ieee.Exact.{HasValue}
-use Rattle.series.specs.Near.{Within, Apart, Beside}
+use Rattle.series.specs.Near.{Within, Beside}
 use Rattle.series.proofs.Algebra.{ac, loosen}
 
 carry-lo : (B b num den a c n d : ℕ) → 0 < c → n * c ≡ a * d → B * num * c ≤ b * a * den → B * num * d ≤ b * n * den
@@ -62,50 +62,6 @@ within-looser b k num den (fin s m e) p h w =
     )
 
 -- ---- at most 1 / b away
-
-scale-le : (b x y z X Y Z c d : ℕ) → 0 < c → X * c ≡ x * d → Y * c ≡ y * d → Z * c ≡ z * d → b * x ≤ b * y + z → b * X ≤ b * Y + Z
-scale-le b x y z X Y Z c d pos p q r h =
-    le-of-mul-le-mul-right {k = c} (simp ac (omega (arith, simp ac at (mul-le-mul-right d h), simp ac at (ap (λ (w : ℕ). w * b) p), simp ac at (ap (λ (w : ℕ). w * b) q), r))) pos
-
-scale-sum : (b x y z X Y Z c d : ℕ) → 0 < c → X * c ≡ x * d → Y * c ≡ y * d → Z * c ≡ z * d → b * (x + y) ≤ z → b * (X + Y) ≤ Z
-scale-sum b x y z X Y Z c d pos p q r h =
-    le-of-mul-le-mul-right {k = c} (simp ac (omega (arith, simp ac at (mul-le-mul-right d h), simp ac at (ap (λ (w : ℕ). w * b) p), simp ac at (ap (λ (w : ℕ). w * b) q), r))) pos
-
--- x : y : z is X : Y : Z
-pub apart-scale : (b : ℕ) (s t : Bool) (x y z X Y Z c d : ℕ) → 0 < c → X * c ≡ x * d → Y * c ≡ y * d → Z * c ≡ z * d → Apart b s t x y z → Apart b s t X Y Z
-apart-scale b false false x y z X Y Z c d pos p q r h = (scale-le b x y z X Y Z c d pos p q r (h .0), scale-le b y x z Y X Z c d pos q p r (h .1))
-apart-scale b true true x y z X Y Z c d pos p q r h = (scale-le b x y z X Y Z c d pos p q r (h .0), scale-le b y x z Y X Z c d pos q p r (h .1))
-apart-scale b false true x y z X Y Z c d pos p q r h = scale-sum b x y z X Y Z c d pos p q r h
-apart-scale b true false x y z X Y Z c d pos p q r h = scale-sum b x y z X Y Z c d pos p q r h
-
-value-cross : (n d a c den : ℕ) → n * c ≡ a * d → n * den * c ≡ a * den * d
-value-cross n d a c den e = simp ac (simp ac at (ap (λ (z : ℕ). z * den) e))
-
-swap-cross : (x c d : ℕ) → x * d * c ≡ x * c * d
-swap-cross x c d = simp ac
-
--- by a fraction a / c that r equals
-pub beside-value : (b : ℕ) (s sign : Bool) (num den a c : ℕ) (r : Float) → 0 < c → HasValue r s a c → Apart b s sign (a * den) (num * c) (den * c) → Beside b sign num den r
-beside-value b s sign num den a c nan pos v h = v
-beside-value b s sign num den a c (inf t) pos v h = v
-beside-value b s sign num den a c (fin t m e) pos v h =
-    rw (v .0) (apart-scale b s sign (a * den) (num * c) (den * c) (m * up e * den) (num * down e) (den * down e) c (down e) pos
-    (value-cross (m * up e) (down e) a c den (v .1)) (swap-cross num c (down e)) (swap-cross den c (down e)) h)
-
--- num / den is num' / den' too
-pub beside-other : (b : ℕ) (sign : Bool) (num den num' den' : ℕ) (r : Float) → 0 < den → num * den' ≡ num' * den → Beside b sign num den r → Beside b sign num' den' r
-beside-other b sign num den num' den' nan pos q h = h
-beside-other b sign num den num' den' (inf s) pos q h = h
-beside-other b sign num den num' den' (fin s m e) pos q h =
-    apart-scale b s sign (m * up e * den) (num * down e) (den * down e) (m * up e * den') (num' * down e) (den' * down e) den den' pos
-    (swap-cross (m * up e) den den') (turned num den num' den' (down e) q) (around den den' (down e)) h
-  where
-    turned : (num den num' den' d : ℕ) → num * den' ≡ num' * den → num' * d * den ≡ num * d * den'
-    turned num den num' den' d e = simp ac (simp ac at (ap (λ (z : ℕ). z * d) (sym e)))
-
-    around : (den den' d : ℕ) → den' * d * den ≡ den * d * den'
-    around den den' d = simp ac
-
 -- both signs turned
 pub beside-neg : (b : ℕ) (sign : Bool) (num den : ℕ) (r : Float) → Beside b sign num den r → Beside b (not sign) num den (neg r)
 unfolding neg

@@ -1,11 +1,11 @@
 -- The truncated exponential of p L / (c M) as a polynomial in p / c, whose coefficients are L ^ j / (M ^ j j!). Assumes nothing.
-use mathlib.Core.Path.{_≡_, refl, sym, ap, ap₂, _∙_, subst}
-use Prim.Native.Nat.{ℕ, zero, suc, _+_, _*_, _/_, _^_, _≤_, _<_}
+use mathlib.Core.Path.{_≡_, refl, sym, ap, _∙_}
+use Prim.Native.Nat.{ℕ, zero, suc, _+_, _*_, _^_}
 use mathlib.Core.List.{List, [], _∷_}
-use native.Mathlib.Nat.{mul-mul-mul-comm, mul-comm, mul-assoc, mul-left-comm, mul-add, add-mul, mul-zero, zero-mul, mul-one, one-mul, pow-suc, pow-zero, zero-add, add-zero, add-assoc, add-comm, add-left-comm}
+use native.Mathlib.Nat.{zero-mul, pow-suc, pow-zero, add-assoc}
 use native.Mathlib.Omega.{arith}
 use lib.ListN.{length}
-use Rattle.series.specs.Exponential.{expNum, expDen}
+use Rattle.series.specs.Exponential.{expNum}
 use Rattle.series.proofs.Horner.{hom}
 use Rattle.series.proofs.Algebra.{ac, mul-pow}
 

@@ -1,7 +1,7 @@
 -- Finite sums and products of series, over ℕ. Assumes nothing.
 use mathlib.Core.Path.{_≡_, refl, sym, ap, ap₂, _∙_, subst}
 use Prim.Native.Nat.{ℕ, zero, suc, _+_, _*_, _≤_, _<_}
-use native.Mathlib.Nat.{le-trans, le-of-eq, eq-of-mul-eq-mul-right, mul-pos, le-add-right, le-refl, mul-comm, mul-assoc, mul-left-comm, mul-add, add-mul, mul-zero, zero-mul, zero-add, add-zero, add-comm, add-assoc, add-left-comm, add-suc, suc-add, suc-mul, mul-suc, mul-le-mul, mul-le-mul-left, mul-le-mul-right}
+use native.Mathlib.Nat.{le-trans, le-of-eq, eq-of-mul-eq-mul-right, mul-pos, le-add-right, le-refl, mul-comm, mul-assoc, mul-left-comm, mul-add, add-mul, mul-zero, zero-mul, zero-add, add-zero, add-suc, suc-add, mul-le-mul-left}
 use native.Mathlib.Omega.{arith}
 use Rattle.series.proofs.Algebra.{ac}
 

@@ -1,12 +1,12 @@
 -- What lies past the n-th term of the exponential, and so the addition law at one length. Assumes nothing.
-use mathlib.Core.Path.{_≡_, refl, sym, ap, ap₂, _∙_, subst, subst₂}
+use mathlib.Core.Path.{_≡_, sym, ap, ap₂, _∙_, subst₂}
 use Prim.Native.Nat.{ℕ, zero, suc, _+_, _-_, _*_, _^_, _≤_, _<_}
-use native.Mathlib.Nat.{le-trans, le-of-eq, le-refl, mul-comm, mul-assoc, mul-left-comm, mul-right-comm, mul-add, add-mul, mul-one, one-mul, zero-add, add-zero, add-suc, suc-add, add-comm, sub-self, sub-zero, pow-zero, pow-suc, pow-le-pow-left, mul-pos, le-of-mul-le-mul-right, mul-le-mul-right, mul-le-mul-left, mul-le-mul, add-sub-cancel-left, le-add-right}
+use native.Mathlib.Nat.{le-trans, le-of-eq, le-refl, mul-comm, mul-assoc, mul-right-comm, mul-add, add-mul, mul-one, one-mul, zero-add, add-zero, suc-add, add-comm, sub-self, pow-zero, pow-suc, pow-le-pow-left, mul-pos, le-of-mul-le-mul-right, mul-le-mul-right, mul-le-mul-left}
 use native.Mathlib.Omega.{arith}
-use lib.Dec.{lit<, lit≤}
+use lib.Dec.{lit<}
 use Rattle.series.specs.Exponential.{expNum, expDen}
 use Rattle.series.proofs.Algebra.{ac, mul-pow}
-use Rattle.series.proofs.Exponential.{at-least-one, den-pos, den-pow}
+use Rattle.series.proofs.Exponential.{at-least-one, den-pos, den-pow, quadratic-is, quadratic-den}
 use Rattle.series.proofs.Sums.{sum}
 use Rattle.series.proofs.Addition.{rise, term, term-rule, sum-is, rise-den, rise-pos, rise-zero, law-lower, law-upper}
 
@@ -97,3 +97,16 @@ addition n R K p q Rp qp t₁ t₂ x y z zp h = (
 pub near-one : (R n x z : ℕ) → 0 < z → (R + 1) * x ≤ z → R * expNum n x z ≤ (R + 1) * expDen n z
 unfolding expNum
 near-one R n x z zp h = rw (add-zero n, rise-zero, pow-zero x, mul-one R) at (tail R 0 n x z zp (rw (one-mul z) h))
+
+-- and from above: at most one part in R of x² / 2 more
+pub quadratic-ge : (R k x z : ℕ) → 0 < z → (R + 1) * x ≤ 3 * z → R * (expNum (k + 2) x z * (2 * (z * z))) ≤ (R * (2 * (z * z) + 2 * (z * x) + x * x) + x * x) * expDen (k + 2) z
+quadratic-ge R k x z zp h =
+    go (expNum (k + 2) x z) (rise z 2 k) (2 * (z * z) + 2 * (z * x) + x * x) (x * x) (2 * (z * z)) (expDen (k + 2) z)
+    (sym (ap (λ (d : ℕ). d * rise z 2 k) (quadratic-den z)) ∙ rise-den z 2 k ∙ ap (λ (n : ℕ). expDen n z) (add-comm 2 k))
+    (rw (quadratic-is x z, square x) at (tail R 2 k x z zp h))
+  where
+    square : (x : ℕ) → x ^ 2 ≡ x * x
+    square x = rw (pow-suc x 1, pow-suc x 0, pow-zero x) (ap (λ (y : ℕ). y * x) (one-mul x))
+
+    go : (e r q y w d : ℕ) → w * r ≡ d → R * e ≤ (R * q + y) * r → R * (e * w) ≤ (R * q + y) * d
+    go e r q y w d p f = rw (← p) (simp ac (simp ac at (mul-le-mul-right w f)))

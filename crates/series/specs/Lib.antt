@@ -1,4 +1,4 @@
+-- The series and what it means to be near, as definitions. Assumes nothing.
 pub mod Exponential
 pub mod Horner
-pub mod Alternating
 pub mod Near

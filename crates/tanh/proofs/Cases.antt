@@ -8,23 +8,22 @@ use lib.IntN.{ℤ}
 use lib.Ieee.{fin, up, down}
 use Rattle.series.specs.Near.{Within}
 use Rattle.power.specs.Exact.{twoNum, twoDen}
+use Rattle.power.proofs.Numbers.{M}
 use Rattle.tanh.specs.Tanh.{twoLog2E, decayOf, quotientOf}
-use Rattle.tanh.proofs.Pair.{lesser, greater}
-use Rattle.tanh.proofs.Rounding.{near-over, near-under}
-use Rattle.tanh.proofs.Method.{decay-pos, decay-lt, partner}
+use Rattle.tanh.proofs.Pair.{K, lesser, greater}
+use Rattle.tanh.proofs.Rounding.{tanh-rounding-over, tanh-rounding-under}
+use Rattle.tanh.proofs.Method.{decay-pos, decay-lt, tanh-reduction}
 use Rattle.tanh.proofs.Tiny.{tiny-over, tiny-under}
 use Rattle.tanh.proofs.Far.{far, far-over, far-under}
 use Rattle.tanh.proofs.Sign.{Close}
-
-abbrev P : ℕ
-P = 4294967296
+use Rattle.power.proofs.Numbers.{P}
 
 module _ (s : Bool) (a c : ℕ) (cp : 0 < c) where
   abbrev v : ℕ
-  v = a * 288539008177792
+  v = a * K
 
   abbrev d : ℕ
-  d = c * 100000000000000
+  d = c * M
 
   abbrev pub X : ℕ
   X = lesser s (twoNum s v d) (twoDen s v d)
@@ -80,10 +79,10 @@ module _ (s : Bool) (a c : ℕ) (cp : 0 < c) where
 
     pub between-case : (m : ℕ) (i : ℤ) → Within (2 ^ 24) q (2 ^ 31) (fin false m i) → Close X Y (m * up i) (down i)
     between-case m i h =
-        let k = partner s a c cp hi u-hi in
+        let k = tanh-reduction s a c cp hi u-hi in
         let el : e ≤ P = omega (arith, e-hi) in
         let ed : P - e + e ≡ P = omega (arith, e-hi) in
         record {
-          over = λ B Z p r. near-over e X B Y Z (P - e) k el ed p r q (m * up i) (down i) q-over q-under (le-of-lt q-hi) (h .1) (h .2);
-          under = λ B Z p r. near-under e X B Y Z (P - e) k el ed p r q (m * up i) (down i) q-over q-under (le-of-lt q-hi) (h .1) (h .2);
+          over = λ B Z p r. tanh-rounding-over e X B Y Z (P - e) k el ed p r q (m * up i) (down i) q-over q-under (le-of-lt q-hi) (h .1) (h .2);
+          under = λ B Z p r. tanh-rounding-under e X B Y Z (P - e) k el ed p r q (m * up i) (down i) q-over q-under (le-of-lt q-hi) (h .1) (h .2);
         }

@@ -1,5 +1,5 @@
 -- The curve keeps its distance for every number. Assumes nothing.
-use mathlib.Core.Path.{_≡_, refl, sym, ap, _∙_, subst}
+use mathlib.Core.Path.{_≡_, refl}
 use mathlib.Core.Bool.{Bool, true, false, not, cond, true≢false}
 use Prim.Native.Nat.{ℕ, _+_, _-_, _*_, _/_, _^_, _≤_, _<_}
 use native.Mathlib.Nat.{mul-pos}
@@ -12,17 +12,18 @@ use lib.Ieee.{Float, nan, inf, fin, up, down, lt, le, ne, eq, neg, isNan}
 use lib.Ieee.Positive.{num, den}
 use lib.Ieee.Scale.{finite}
 use Rattle.series.specs.Near.{Within, Beside}
-use Rattle.fixed.specs.Fixed.{signOf, sizeOf, packOf}
+use Rattle.fixed.specs.Fixed.{signOf, withSign, sizeOf, packOf}
 use Rattle.fixed.proofs.Fields.{down-pos}
 use Rattle.fixed.proofs.Order.{lt-says, le-says, not-lt, not-le}
 use Rattle.fixed.proofs.Packs.{packed, pack-value, pack-le-one}
 use Rattle.power.specs.Exact.{twoNum, twoDen, eNum, eDen}
 use Rattle.power.specs.Power.{productOf}
+use Rattle.power.proofs.Numbers.{M}
 use Rattle.tanh.specs.Exact.{tanhMinus, tanhNum, tanhDen}
 use Rattle.tanh.specs.Tanh.{twoLog2E, decayOf, quotientOf, one, tiny, ten, aboveOf, tanhOf}
 use Rattle.tanh.specs.Near.{TanhNear}
-use Rattle.tanh.proofs.Pair.{lesser-le}
-use Rattle.tanh.proofs.Sign.{withSign, Close, signed, bounded, tanh-is, tanh-odd}
+use Rattle.tanh.proofs.Pair.{K, lesser-le}
+use Rattle.tanh.proofs.Sign.{Close, signed, bounded, tanh-is, tanh-odd}
 use Rattle.tanh.proofs.Cases.{X, Y, q, q-lo, q-hi, small-case, large-case, between-case}
 
 module _ (s : Bool) (m : ℕ) (e : ℤ) where
@@ -35,13 +36,13 @@ module _ (s : Bool) (m : ℕ) (e : ℤ) where
   abbrev Near : Float → Type 0
   Near r = Beside (2 ^ 18) (tanhMinus s a c) (tanhNum s a c) (tanhDen s a c) (withSign s r)
 
-  doubled : 2 * (m * up e) * 144269504088896 ≡ m * up e * 288539008177792
+  doubled : 2 * (m * up e) * 144269504088896 ≡ m * up e * K
   doubled = omega arith
 
   near-close : (n : ℕ) (i : ℤ) → Close (X s a c (down-pos e)) (Y s a c (down-pos e)) (n * up i) (down i) → Near (fin false n i)
   unfolding tanhMinus tanhNum tanhDen eNum eDen
   near-close n i k =
-      rw doubled (signed s (twoNum s (a * 288539008177792) (c * 100000000000000)) (twoDen s (a * 288539008177792) (c * 100000000000000)) n i (lesser-le s (a * 288539008177792) (c * 100000000000000) (mul-pos (down-pos e) (lit< tt))) k)
+      rw doubled (signed s (twoNum s (a * K) (c * M)) (twoDen s (a * K) (c * M)) n i (lesser-le s (a * K) (c * M) (mul-pos (down-pos e) (lit< tt))) k)
 
   packed-near : (lo : c ≤ 1024 * a) (hi : a ≤ 10 * c) (r : Float) → Within (2 ^ 24) (q s a c (down-pos e) lo hi) (2 ^ 31) r → Near r
   packed-near lo hi nan h = absurd h

@@ -1,8 +1,8 @@
 -- From 10 on E is at least 2 ^ 20, so that the curve is 1 to within 2 ^ -18. Assumes nothing.
-use mathlib.Core.Path.{_≡_, sym}
+use mathlib.Core.Path.{_≡_}
 use mathlib.Core.Bool.{Bool, true, false}
-use Prim.Native.Nat.{ℕ, _+_, _-_, _*_, _/_, _%_, _^_, _≤_, _<_}
-use native.Mathlib.Nat.{le-trans, mul-pos, mul-le-mul, mul-le-mul-left, mul-le-mul-right, le-of-mul-le-mul-right, le-div-iff-mul-le}
+use Prim.Native.Nat.{ℕ, _+_, _-_, _*_, _%_, _≤_, _<_}
+use native.Mathlib.Nat.{le-trans, mul-pos, mul-le-mul, mul-le-mul-right, le-of-mul-le-mul-right, le-div-iff-mul-le}
 use native.Mathlib.Omega.{arith}
 use lib.Dec.{lit<}
 use lib.Pow.{pow-mono}
@@ -10,14 +10,15 @@ use Rattle.power.specs.Exact.{sumNum, sumDen, ceiling, twoNum, twoDen}
 use Rattle.power.proofs.TwoPower.{two-hi}
 use Rattle.power.proofs.Moves.{sum-ge, sum-mono}
 use Rattle.power.proofs.Signs.{ceiling-ge, ceiling-lt}
-use Rattle.tanh.proofs.Pair.{lesser, greater}
+use Rattle.power.proofs.Numbers.{M}
+use Rattle.tanh.proofs.Pair.{K, lesser, greater}
 
 module _ (a c : ℕ) (cp : 0 < c) (al : 10 * c ≤ a) where
   abbrev v : ℕ
-  v = a * 288539008177792
+  v = a * K
 
   abbrev d : ℕ
-  d = c * 100000000000000
+  d = c * M
 
   dp : 0 < d
   dp = mul-pos cp (lit< tt)
@@ -25,7 +26,7 @@ module _ (a c : ℕ) (cp : 0 < c) (al : 10 * c ≤ a) where
   twenty : 20 * d ≤ v
   twenty = omega arith
 
-  pub far : (s : Bool) → 524288 * lesser s (twoNum s (a * 288539008177792) (c * 100000000000000)) (twoDen s (a * 288539008177792) (c * 100000000000000)) ≤ greater s (twoNum s (a * 288539008177792) (c * 100000000000000)) (twoDen s (a * 288539008177792) (c * 100000000000000))
+  pub far : (s : Bool) → 524288 * lesser s (twoNum s (a * K) (c * M)) (twoDen s (a * K) (c * M)) ≤ greater s (twoNum s (a * K) (c * M)) (twoDen s (a * K) (c * M))
   unfolding twoNum twoDen
   far false =
       le-trans (mul-le-mul-right (sumDen d) (omega arith)) (mul-le-mul {n₁ = 1048576} (pow-mono {i = 20} (le-div-iff-mul-le dp .1 twenty)) (sum-ge (v % d) d))

@@ -1,5 +1,5 @@
 -- What callers of tanh use: its result is a float of the format, from -1 to 1. Assumes nothing.
-use mathlib.Core.Bool.{Bool, true, false, not, cond}
+use mathlib.Core.Bool.{true, false, not}
 use lib.IntN.{pos}
 use lib.Dec.{T}
 use lib.Ieee.{Float, nan, fin, binary32, lt, le, ne, neg, fits, isNan}

@@ -1,3 +1,4 @@
+-- The proofs of tanh, lowest first. Assumes nothing.
 pub mod Rounding
 pub mod Pair
 pub mod Method

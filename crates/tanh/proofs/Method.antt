@@ -1,27 +1,25 @@
 -- The method's and the reduction's errors: e ^ -2a in fixed point is X / Y to one part in 900000, and one unit of Q32. Assumes nothing.
-use mathlib.Core.Path.{_≡_, refl, sym, ap, _∙_, subst}
+use mathlib.Core.Path.{_≡_, refl, sym, ap, _∙_}
 use mathlib.Core.Logic.{_⊎_, inl, inr}
-use mathlib.Core.Bool.{Bool, true, false}
-use Prim.Native.Nat.{ℕ, zero, suc, _+_, _-_, _*_, _/_, _%_, _^_, _≤_, _<_}
-use native.Mathlib.Nat.{le-trans, le-of-eq, le-of-lt, mul-comm, mul-assoc, mul-left-comm, mul-add, add-mul, one-mul, mul-pos, mul-le-mul-left, mul-le-mul-right, le-of-mul-le-mul-right, div-mul-le-self, lt-div-mul-add, eq-or-lt-of-le, le-div-iff-mul-le}
+use mathlib.Core.Bool.{Bool, true}
+use Prim.Native.Nat.{ℕ, _+_, _-_, _*_, _/_, _%_, _^_, _≤_, _<_}
+use native.Mathlib.Nat.{le-trans, le-of-eq, le-of-lt, add-mul, one-mul, mul-pos, mul-le-mul-left, mul-le-mul-right, le-of-mul-le-mul-right, div-mul-le-self, lt-div-mul-add, eq-or-lt-of-le, le-div-iff-mul-le}
 use native.Mathlib.Omega.{arith}
-use lib.Dec.{T, lit<, lit≤}
+use lib.Dec.{lit<, lit≤}
 use lib.Pow.{pow-pos, pow-add, pow-mono}
 use Rattle.series.specs.Horner.{horner}
 use Rattle.series.proofs.Algebra.{ac, loosen}
 use Rattle.power.specs.Exact.{sumNum, sumDen, twoNum, twoDen}
-use Rattle.power.specs.Power.{roots, fractionOf}
+use Rattle.power.specs.Power.{fractionOf}
+use Rattle.power.proofs.Numbers.{P, M}
 use Rattle.power.proofs.TwoPower.{twoAt}
-use Rattle.power.proofs.Moves.{Ratio, sum-den-pos}
-use Rattle.power.proofs.Method.{fraction-lo, fraction-hi, method-over, method-under}
+use Rattle.power.proofs.Moves.{sum-den-pos}
+use Rattle.power.proofs.Method.{fraction-lo, fraction-hi, power-method-over, power-method-under}
 use Rattle.power.proofs.Mono.{fraction-mono}
-use Rattle.power.proofs.Reduction.{base-ratio, size-small}
+use Rattle.power.proofs.Reduction.{base-reduction, size-small}
 use Rattle.tanh.specs.Tanh.{twoLog2E, decayOf}
-use Rattle.tanh.proofs.Pair.{lesser, greater, pair-over, pair-under}
+use Rattle.tanh.proofs.Pair.{K, lesser, greater, pair-over, pair-under}
 use Rattle.tanh.proofs.Rounding.{Partner}
-
-abbrev P : ℕ
-P = 4294967296
 
 shift-over : (m n e k N f D S Q : ℕ) → e * k ≤ f → m * (f * D) ≤ n * (Q * S) → m * (e * (k * N * D)) ≤ n * (Q * (N * S))
 shift-over m n e k N f D S Q h g = simp ac (omega (arith, simp ac at (mul-le-mul-right (m * N * D) h), simp ac at (mul-le-mul-right N g)))
@@ -56,13 +54,13 @@ module _ (u : ℕ) (ul : u ≤ 30 * P) where
   h-lt : h < P
   h-lt = omega arith
 
-  decay-over : 33554432 * (decayOf u * (2 ^ 128 * sumDen P)) ≤ 33554433 * (P * twoAt P w)
+  tanh-method-over : 33554432 * (decayOf u * (2 ^ 128 * sumDen P)) ≤ 33554433 * (P * twoAt P w)
   unfolding twoAt
-  decay-over = rw (← powers) (shift-over 33554432 33554433 (decayOf u) (2 ^ k) (2 ^ (w / P)) (fractionOf h) (sumDen P) (sumNum h P) P kept (method-over h h-lt))
+  tanh-method-over = rw (← powers) (shift-over 33554432 33554433 (decayOf u) (2 ^ k) (2 ^ (w / P)) (fractionOf h) (sumDen P) (sumNum h P) P kept (power-method-over h h-lt))
 
-  decay-under : 33554432 * (P * twoAt P w) ≤ 33554433 * ((decayOf u + 1) * (2 ^ 128 * sumDen P))
+  tanh-method-under : 33554432 * (P * twoAt P w) ≤ 33554433 * ((decayOf u + 1) * (2 ^ 128 * sumDen P))
   unfolding twoAt
-  decay-under = rw (← powers) (shift-under 33554432 33554433 (decayOf u + 1) (2 ^ k) (2 ^ (w / P)) (fractionOf h) (sumDen P) (sumNum h P) P cut (method-under h h-lt))
+  tanh-method-under = rw (← powers) (shift-under 33554432 33554433 (decayOf u + 1) (2 ^ k) (2 ^ (w / P)) (fractionOf h) (sumDen P) (sumNum h P) P cut (power-method-under h h-lt))
 
   halved : (j : ℕ) → j ≤ k → decayOf u * 2 ^ j ≤ 8589934592
   halved j l = le-trans (mul-le-mul-left (decayOf u) (pow-mono l)) (le-trans kept (fraction-hi h h-lt))
@@ -78,7 +76,7 @@ module _ (u : ℕ) (ul : u ≤ 30 * P) where
       top = omega arith
 
       start : decayOf 0 ≡ 4294967296
-      start = unfold decayOf fractionOf horner roots in refl
+      start = unfold decayOf fractionOf horner in refl
 
       go : (w / P ≡ 128) ⊎ (w / P < 128) → decayOf u ≤ 4294967296
       go (inl e) = let z : u ≡ 0 = omega arith in rw z (le-of-eq start)
@@ -92,7 +90,7 @@ module _ (u : ℕ) (ul : u ≤ 30 * P) where
       top = omega arith
 
       there : fractionOf 4282967296 ≤ 8578000000
-      there = unfold fractionOf horner roots in lit≤ tt
+      there = unfold fractionOf horner in lit≤ tt
 
       near : w / P ≡ 127 → fractionOf h ≤ 8578000000
       near e = le-trans (fraction-mono h 4282967296 (omega arith) (lit< tt)) there
@@ -112,20 +110,14 @@ join-under : (m₁ m₂ m₃ n₁ n₂ n₃ e F Dp Dc Q t U X Y : ℕ) → 0 < F
 join-under m₁ m₂ m₃ n₁ n₂ n₃ e F Dp Dc Q t U X Y fp dp cp h₁ h₂ h₃ =
     le-of-mul-le-mul-right {k = F * Dp * Dc} (simp ac (omega (arith, simp ac at (mul-le-mul-right (n₂ * n₃ * Dc * Y) h₁), simp ac at (mul-le-mul-right (m₁ * n₃ * Q * Y) h₂), simp ac at (mul-le-mul-right (m₁ * m₂ * Q * Dp) h₃)))) (mul-pos (mul-pos fp dp) cp)
 
-abbrev K : ℕ
-K = 288539008177792
-
-abbrev M : ℕ
-M = 100000000000000
-
 module _ (s : Bool) (a c : ℕ) (cp : 0 < c) (al : a ≤ 10 * c) (ul : a * P / c * twoLog2E / P ≤ 30 * P) where
   abbrev Mp : 0 < c * M
   Mp = mul-pos cp (lit< tt)
 
-  pub partner : Partner (decayOf (a * P / c * twoLog2E / P)) (lesser s (twoNum s (a * K) (c * M)) (twoDen s (a * K) (c * M))) (greater s (twoNum s (a * K) (c * M)) (twoDen s (a * K) (c * M)))
-  partner =
+  pub tanh-reduction : Partner (decayOf (a * P / c * twoLog2E / P)) (lesser s (twoNum s (a * K) (c * M)) (twoDen s (a * K) (c * M))) (greater s (twoNum s (a * K) (c * M)) (twoDen s (a * K) (c * M)))
+  tanh-reduction =
       let u = a * P / c * twoLog2E / P in
-      let r = base-ratio K twoLog2E 10 (lit≤ tt) (lit≤ tt) (lit≤ tt) (lit≤ tt) (lit≤ tt) a c cp al true in
+      let r = base-reduction K twoLog2E 10 (lit≤ tt) (lit≤ tt) (lit≤ tt) (lit≤ tt) (lit≤ tt) a c cp al true in
       let vl = size-small K twoLog2E 10 (lit≤ tt) (lit≤ tt) (lit≤ tt) (lit≤ tt) (lit≤ tt) a c cp al in
       let X = lesser s (twoNum s (a * K) (c * M)) (twoDen s (a * K) (c * M)) in
       let Y = greater s (twoNum s (a * K) (c * M)) (twoDen s (a * K) (c * M)) in
@@ -134,8 +126,8 @@ module _ (s : Bool) (a c : ℕ) (cp : 0 < c) (al : a ≤ 10 * c) (ul : a * P / c
       record {
         over = loosen (33554432 * 1900000 * 2097151) (33554433 * 1900001 * 2097152) 900000 900001 (decayOf u * Y) (P * X) (lit< tt) (lit≤ tt)
             (join-over 33554432 1900000 2097151 33554433 1900001 2097152 (decayOf u) (2 ^ 128) (sumDen P) (sumDen (c * M)) P t U X Y (pow-pos 128) (sum-den-pos P (lit< tt)) (sum-den-pos (c * M) Mp)
-            (decay-over u ul) (r .over) (pair-under (a * K) (c * M) Mp vl s));
+            (tanh-method-over u ul) (r .over) (pair-under (a * K) (c * M) Mp vl s));
         under = loosen (33554432 * 1900000 * 2097151) (33554433 * 1900001 * 2097152) 900000 900001 (P * X) ((decayOf u + 1) * Y) (lit< tt) (lit≤ tt)
             (join-under 33554432 1900000 2097151 33554433 1900001 2097152 (decayOf u + 1) (2 ^ 128) (sumDen P) (sumDen (c * M)) P t U X Y (pow-pos 128) (sum-den-pos P (lit< tt)) (sum-den-pos (c * M) Mp)
-            (decay-under u ul) (r .under) (pair-over (a * K) (c * M) Mp vl s));
+            (tanh-method-under u ul) (r .under) (pair-over (a * K) (c * M) Mp vl s));
       }

@@ -3,16 +3,19 @@
 use mathlib.Core.Path.{_≡_, refl, sym, ap, _∙_}
 use mathlib.Core.Bool.{Bool, true, false}
 use Prim.Native.Nat.{ℕ, zero, suc, _+_, _-_, _*_, _/_, _%_, _^_, _≤_, _<_}
-use native.Mathlib.Nat.{le-refl, le-trans, le-of-eq, le-of-lt, mul-comm, mul-assoc, mul-left-comm, mul-add, add-mul, one-mul, zero-mul, zero-add, mul-pos, mul-le-mul, mul-le-mul-left, mul-le-mul-right, le-of-mul-le-mul-right, pow-suc, sub-le}
+use native.Mathlib.Nat.{le-trans, le-of-eq, mul-comm, one-mul, zero-mul, zero-add, mul-pos, mul-le-mul-right, le-of-mul-le-mul-right}
 use native.Mathlib.Omega.{arith}
 use lib.Dec.{lit<, lit≤}
-use lib.Pow.{pow-pos, pow-add}
+use lib.Pow.{pow-pos}
 use Rattle.series.proofs.Algebra.{ac, loosen}
-use Rattle.fixed.specs.Fixed.{shifted}
 use Rattle.power.specs.Exact.{sumNum, sumDen, ceiling, twoNum, twoDen}
 use Rattle.power.proofs.TwoPower.{twoAt, two-at-is, power-law, two-hi}
 use Rattle.power.proofs.Moves.{sum-den-pos, sum-ge, sum-zero, sum-mono}
-use Rattle.power.proofs.Signs.{two-shifted, ceiling-ge, ceiling-lt}
+use Rattle.power.proofs.Signs.{two-shifted, ceiling-lt}
+
+-- 2 log2 e over 10 ^ 14
+abbrev pub K : ℕ
+K = 288539008177792
 
 -- the smaller and the larger of N and D
 abbrev pub lesser : Bool → ℕ → ℕ → ℕ

@@ -1,13 +1,10 @@
 -- The rounding's error: (P - e) / (P + e) in Q31, cut, then packed, against (Y - X) / (Y + X), where e / P is near X / Y. Assumes nothing.
-use mathlib.Core.Path.{_≡_, sym, ap, _∙_}
-use Prim.Native.Nat.{ℕ, _+_, _-_, _*_, _/_, _≤_, _<_}
-use native.Mathlib.Nat.{le-trans, le-of-eq, mul-comm, mul-assoc, mul-left-comm, mul-add, add-mul, one-mul, mul-le-mul, mul-le-mul-left, mul-le-mul-right, le-of-mul-le-mul-right}
+use mathlib.Core.Path.{_≡_, ap, _∙_}
+use Prim.Native.Nat.{ℕ, _+_, _*_, _/_, _≤_, _<_}
+use native.Mathlib.Nat.{le-trans, le-of-eq, mul-comm, mul-assoc, add-mul, one-mul, mul-le-mul, mul-le-mul-left, mul-le-mul-right, le-of-mul-le-mul-right}
 use native.Mathlib.Omega.{arith}
-use lib.Dec.{lit<}
 use Rattle.series.proofs.Algebra.{ac}
-
-abbrev P : ℕ
-P = 4294967296
+use Rattle.power.proofs.Numbers.{P}
 
 -- e / P is X / Y to one part in 900000, and one unit
 pub record Partner (e X Y : ℕ) : Type 0 where
@@ -63,8 +60,8 @@ module _ (e X B Y Z d : ℕ) (h : Partner e X Y) (el : e ≤ P) (ed : d + e ≡ 
     qw : q * w * Z ≤ 2147483648 * (w * Z)
     qw = le-trans (le-of-eq (mul-assoc q w Z)) (mul-le-mul-right (w * Z) ql)
 
-    pub near-over : 262144 * (x * Z) ≤ 262144 * (B * w) + Z * w
-    near-over = go (x * Z) (q * w * Z) (B * w) (Z * w) (first x w q Z hi) (second w q Z B cut-upper) (le-trans qw (le-of-eq (ap (λ (z : ℕ). 2147483648 * z) (mul-comm w Z))))
+    pub tanh-rounding-over : 262144 * (x * Z) ≤ 262144 * (B * w) + Z * w
+    tanh-rounding-over = go (x * Z) (q * w * Z) (B * w) (Z * w) (first x w q Z hi) (second w q Z B cut-upper) (le-trans qw (le-of-eq (ap (λ (z : ℕ). 2147483648 * z) (mul-comm w Z))))
       where
         first : (x w q Z : ℕ) → 16777216 * x * 2147483648 ≤ 16777217 * q * w → 16777216 * (2147483648 * (x * Z)) ≤ 16777217 * (q * w * Z)
         first x w q Z f = simp ac (simp ac at (mul-le-mul-right Z f))
@@ -75,8 +72,8 @@ module _ (e X B Y Z d : ℕ) (h : Partner e X Y) (el : e ≤ P) (ed : d + e ≡ 
         go : (xZ qwZ Bw Zw : ℕ) → 16777216 * (2147483648 * xZ) ≤ 16777217 * qwZ → 350000 * qwZ ≤ 2147483648 * (350000 * Bw + Zw) → qwZ ≤ 2147483648 * Zw → 262144 * xZ ≤ 262144 * Bw + Zw
         go xZ qwZ Bw Zw f g k = omega arith
 
-    pub near-under : 262144 * (B * w) ≤ 262144 * (x * Z) + Z * w
-    near-under = go (x * Z) (q * w * Z) (B * w) (Z * w) (first x w q Z lo) (second w q Z B cut-lower) (le-trans qw (le-of-eq (ap (λ (z : ℕ). 2147483648 * z) (mul-comm w Z))))
+    pub tanh-rounding-under : 262144 * (B * w) ≤ 262144 * (x * Z) + Z * w
+    tanh-rounding-under = go (x * Z) (q * w * Z) (B * w) (Z * w) (first x w q Z lo) (second w q Z B cut-lower) (le-trans qw (le-of-eq (ap (λ (z : ℕ). 2147483648 * z) (mul-comm w Z))))
       where
         first : (x w q Z : ℕ) → 16777215 * q * w ≤ 16777216 * x * 2147483648 → 16777215 * (q * w * Z) ≤ 16777216 * (2147483648 * (x * Z))
         first x w q Z f = simp ac (simp ac at (mul-le-mul-right Z f))

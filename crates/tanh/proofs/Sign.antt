@@ -13,15 +13,12 @@ use lib.Ieee.{Float, nan, inf, fin, up, down, lt, le, ne, eq, neg, isNan}
 use lib.Ieee.Bits.{is-true, is-false}
 use lib.Ieee.Exact.{HasValue}
 use Rattle.series.specs.Near.{Beside}
+use Rattle.fixed.specs.Fixed.{withSign}
 use Rattle.fixed.proofs.Fields.{down-pos}
 use Rattle.fixed.proofs.Order.{le-make, same-number}
 use Rattle.power.specs.Power.{zeroF}
 use Rattle.tanh.specs.Tanh.{one, tiny, aboveOf, tanhOf}
 use Rattle.tanh.proofs.Pair.{lesser, greater}
-
-abbrev pub withSign : Bool → Float → Float
-withSign true r = neg r
-withSign false r = r
 
 -- x / w is at most 1 / 2 ^ 18 from (Y - X) / (Y + X)
 pub record Close (X Y x w : ℕ) : Type 0 where

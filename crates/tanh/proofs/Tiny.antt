@@ -1,26 +1,18 @@
 -- Below 2 ^ -10 the argument itself is near: to the first order E is 1 + 2a, so that (E - 1) / (E + 1) is a, and what is left is of the order a². Assumes nothing.
-use mathlib.Core.Path.{_≡_, refl, sym, ap, _∙_}
-use mathlib.Core.Bool.{Bool, true, false}
-use Prim.Native.Nat.{ℕ, _+_, _-_, _*_, _/_, _%_, _^_, _≤_, _<_}
-use native.Mathlib.Nat.{le-trans, le-of-eq, mul-comm, mul-assoc, mul-left-comm, mul-add, add-mul, mul-pos, mul-le-mul-left, mul-le-mul-right, le-of-mul-le-mul-right, sub-add-cancel}
+use mathlib.Core.Path.{_≡_, ap}
+use mathlib.Core.Bool.{Bool}
+use Prim.Native.Nat.{ℕ, _+_, _-_, _*_, _/_, _^_, _≤_, _<_}
+use native.Mathlib.Nat.{le-trans, le-of-eq, mul-assoc, mul-left-comm, mul-add, add-mul, mul-pos, mul-le-mul-left, mul-le-mul-right, le-of-mul-le-mul-right, sub-add-cancel}
 use native.Mathlib.Omega.{arith}
 use lib.Dec.{lit<, lit≤}
 use lib.Pow.{pow-pos}
 use Rattle.series.proofs.Algebra.{ac, loosen}
 use Rattle.series.proofs.Exponential.{linear-le, geometric-le}
 use Rattle.power.specs.Exact.{sumNum, sumDen, twoNum, twoDen}
+use Rattle.power.proofs.Numbers.{L, M}
 use Rattle.power.proofs.TwoPower.{twoAt, two-at-is}
 use Rattle.power.proofs.Moves.{sum-den-pos}
-use Rattle.tanh.proofs.Pair.{lesser, greater, pair-over, pair-under, inverse-over, inverse-under}
-
-abbrev L : ℕ
-L = 69314718055995
-
-abbrev M : ℕ
-M = 100000000000000
-
-abbrev K : ℕ
-K = 288539008177792
+use Rattle.tanh.proofs.Pair.{K, lesser, greater, pair-over, pair-under, inverse-over, inverse-under}
 
 -- ---- with every number a variable: X / Y is about F / p, where p = G S and F = G D
 ratio-over : (m n k l X Y F p q : ℕ) → 0 < F → m * (X * F) ≤ n * (Y * q) → k * (p * q) ≤ l * (F * F) → m * k * (X * p) ≤ n * l * (Y * F)

@@ -1,6 +1,6 @@
 -- What document 01 asks of tanh. Assumes nothing.
 use mathlib.Core.Path.{_≡_}
-use mathlib.Core.Bool.{Bool, true, false, not}
+use mathlib.Core.Bool.{Bool, true, not}
 use Prim.Native.Nat.{_^_}
 use lib.Dec.{T}
 use lib.IntN.{pos}

@@ -1,5 +1,5 @@
 -- What tanh computes: (1 - E) / (1 + E) with E = e ^ -2a, in fixed point, for the size a; then the sign. Assumes nothing.
-use mathlib.Core.Bool.{true, false, cond}
+use mathlib.Core.Bool.{false, cond}
 use Prim.Native.Nat.{ℕ, _+_, _-_, _*_, _/_, _%_, _^_}
 use lib.IntN.{pos, negsuc}
 use lib.Ieee.{Float, nan, fin, lt, le, ne, neg}
@@ -30,8 +30,10 @@ tiny = fin false 1 (negsuc 9)
 abbrev pub ten : Float
 ten = fin false 5 (pos 1)
 
+-- for an argument that is not below 0
 unfoldable pub aboveOf : Float → Float
 aboveOf a = cond (lt a tiny) a (cond (le ten a) one (packOf (quotientOf (decayOf (productOf (sizeOf a) twoLog2E))) 31))
 
+-- for every argument: odd
 unfoldable pub tanhOf : Float → Float
 tanhOf x = cond (ne x x) nan (cond (lt x zeroF) (neg (aboveOf (neg x))) (aboveOf x))

@@ -9,8 +9,6 @@ use Rattle.fixed.proofs.Packs.{z-lt, shl-is, packed, bits-lt}
 use borrow.Author.Needs.{needs}
 use Rattle.fixed.proofs.pack.Statement.{statement}
 use Rattle.fixed.proofs.pack.Tie as tie
-use Rattle.fixed.proofs.pack.Reads as reads
-use Rattle.fixed.proofs.pack.Lts as lts
 
 fewer : (c : tie.Start) → leadingZeros 64 (c .args .q) < 64
 fewer c = z-lt (c .args .q) (c .args .k) (omega arith) (c .pre .0) (c .pre .1)

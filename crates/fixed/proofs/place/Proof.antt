@@ -1,16 +1,11 @@
 -- `fixed::place` meets its contract: each arm is a fact of `proofs.Shifts.antt`. Assumes nothing.
-use mathlib.Core.Path.{_≡_, _∙_, sym, ap, subst}
-use mathlib.Core.Bool.{Bool, true, false}
-use Prim.Native.Nat.{ℕ, _<_, _≤_, _-_, _+_, _/_, _*_, _^_}
+use mathlib.Core.Path.{_≡_}
+use Prim.Native.Nat.{ℕ, _<_}
 use native.Mathlib.Omega.{arith}
-use native.Mathlib.Nat.{eq-zero-or-pos}
 use borrow.Author.Needs.{needs}
-use Rattle.fixed.specs.Fixed.{placeAt}
 use Rattle.fixed.proofs.Shifts.{one-is, d-is, d-small, one-big, mid-neg, mid-pos, far-neg, far-pos, near-neg, near-zero, near-pos}
 use Rattle.fixed.proofs.place.Statement.{statement}
 use Rattle.fixed.proofs.place.Tie as tie
-use Rattle.fixed.proofs.place.Reads as reads
-use Rattle.fixed.proofs.place.Lts as lts
 
 sub-k : tie.Need-sub-k
 sub-k c = search needs

@@ -7,9 +7,6 @@ use Rattle.fixed.proofs.Placed.{no-nan, zero-size, told}
 use borrow.Author.Needs.{needs}
 use Rattle.fixed.proofs.size.Statement.{statement}
 use Rattle.fixed.proofs.size.Tie as tie
-use Rattle.fixed.proofs.size.Reads as reads
-use Rattle.fixed.proofs.size.Lts as lts
-use Rattle.fixed.proofs.size_at.Reads as size-at-reads
 
 -- what owning an `f32` tells: the format holds it
 held : (c : tie.Start) → T (fits binary32 (c .args .t))

@@ -4,8 +4,6 @@ use Rattle.fixed.proofs.Shifts.{size-tiny, size-mid, size-far, d-is}
 use borrow.Author.Needs.{needs}
 use Rattle.fixed.proofs.size_at.Statement.{statement}
 use Rattle.fixed.proofs.size_at.Tie as tie
-use Rattle.fixed.proofs.size_at.Reads as reads
-use Rattle.fixed.proofs.size_at.Lts as lts
 
 sub-result : tie.Need-sub-result
 sub-result c = search needs

@@ -7,9 +7,6 @@ use Rattle.fixed.proofs.Placed.{no-nan, zero-place, told}
 use borrow.Author.Needs.{needs}
 use Rattle.fixed.proofs.spot.Statement.{statement}
 use Rattle.fixed.proofs.spot.Tie as tie
-use Rattle.fixed.proofs.spot.Reads as reads
-use Rattle.fixed.proofs.spot.Lts as lts
-use Rattle.fixed.proofs.place.Reads as place-reads
 
 -- what owning an `f32` tells: the format holds it
 held : (c : tie.Start) → T (fits binary32 (c .args .t))

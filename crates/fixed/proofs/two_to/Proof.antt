@@ -8,8 +8,6 @@ use Rattle.fixed.proofs.Powers.{two-to-value}
 use borrow.Author.Needs.{needs}
 use Rattle.fixed.proofs.two_to.Statement.{statement}
 use Rattle.fixed.proofs.two_to.Tie as tie
-use Rattle.fixed.proofs.two_to.Reads as reads
-use Rattle.fixed.proofs.two_to.Lts as lts
 
 mul-result : tie.Need-mul-result
 mul-result c = search needs

@@ -1,24 +1,19 @@
 -- `log10::log10` meets its contract: each answer is its definition's, whose distance is `log10-near`. Assumes nothing.
 use mathlib.Core.Path.{_≡_, sym, _∙_, subst}
 use mathlib.Core.Bool.{false, not}
-use Prim.Native.Nat.{_+_, _*_, _/_, _%_}
+use Prim.Native.Nat.{_/_, _%_}
 use native.Mathlib.Omega.{arith}
 use lib.Dec.{T}
 use lib.Ieee.{Float, inf, binary32, le, fits, ofBits, toBits, div}
-use lib.Ieee.Bits.{is-true, is-false}
 use lib.Ieee.Scale.{finite}
 use Rattle.fixed.proofs.Order.{on, off, le-right}
 use Rattle.log10.specs.Log10.{least, placeLog, log10Of}
 use Rattle.log10.specs.Near.{Log10Near}
-use Rattle.log10.proofs.Fields.{Told, bits-lt, told}
+use Rattle.log10.proofs.Fields.{Told, told}
 use Rattle.log10.proofs.Distance.{log10-near, at-infinity, is-finite, log10-middle}
 use borrow.Author.Needs.{needs}
 use Rattle.log10.proofs.log10.Statement.{statement}
 use Rattle.log10.proofs.log10.Tie as tie
-use Rattle.log10.proofs.log10.Reads as reads
-use Rattle.log10.proofs.log10.Lts as lts
-use Rattle.log10.proofs.part.Reads as part-reads
-use Rattle.log10.proofs.tenth.Reads as tenth-reads
 
 -- what owning an `f32` tells: the format holds it
 held : (c : tie.Start) → T (fits binary32 (c .args .x))

@@ -1,16 +1,12 @@
 -- `log10::pack_zero` meets its contract. Assumes nothing.
-use mathlib.Core.Path.{_≡_, _∙_, sym}
-use mathlib.Core.Bool.{not}
-use lib.Dec.{T, eqb, eqb→eq, not-T}
+use mathlib.Core.Path.{_∙_}
+use lib.Dec.{eqb, eqb→eq, not-T}
 use lib.Ieee.{ofBits}
 use lib.Ieee.Bits.{is-false}
 use Rattle.log10.specs.Log10.{packZero}
 use borrow.Author.Needs.{needs}
 use Rattle.log10.proofs.pack_zero.Statement.{statement}
 use Rattle.log10.proofs.pack_zero.Tie as tie
-use Rattle.log10.proofs.pack_zero.Reads as reads
-use Rattle.log10.proofs.pack_zero.Lts as lts
-use Rattle.fixed.proofs.pack.Reads as pack-reads
 
 returns : tie.Need-returns
 unfolding packZero ofBits

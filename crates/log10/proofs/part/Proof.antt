@@ -5,11 +5,6 @@ use Rattle.log10.proofs.Method.{part-small}
 use borrow.Author.Needs.{needs}
 use Rattle.log10.proofs.part.Statement.{statement}
 use Rattle.log10.proofs.part.Tie as tie
-use Rattle.log10.proofs.part.Reads as reads
-use Rattle.log10.proofs.part.Lts as lts
-use Rattle.log10.proofs.rest.Reads as rest-reads
-use Rattle.log10.proofs.stored.Reads as stored-reads
-use Rattle.power.proofs.product.Reads as product-reads
 
 stored-requires : tie.Need-stored-requires
 stored-requires c κs = search needs

@@ -1,5 +1,5 @@
 -- `log10::tenth` meets its contract. Assumes nothing.
-use mathlib.Core.Path.{_≡_, _∙_, ap, sym}
+use mathlib.Core.Path.{_∙_, ap}
 use lib.Dec.{leb, le→leb}
 use lib.Arith.{lt→nleb}
 use lib.Ieee.{neg}
@@ -8,10 +8,6 @@ use Rattle.log10.specs.Log10.{tenthOf}
 use borrow.Author.Needs.{needs}
 use Rattle.log10.proofs.tenth.Statement.{statement}
 use Rattle.log10.proofs.tenth.Tie as tie
-use Rattle.log10.proofs.tenth.Reads as reads
-use Rattle.log10.proofs.tenth.Lts as lts
-use Rattle.log10.proofs.pack_zero.Reads as pack-zero-reads
-use Rattle.power.proofs.product.Reads as product-reads
 
 product-requires : tie.Need-product-requires
 product-requires c κs = search needs

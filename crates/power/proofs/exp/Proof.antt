@@ -1,24 +1,18 @@
 -- `power::exp` meets its contract: each answer is its definition's, whose distance is `exp-near`. Assumes nothing.
-use mathlib.Core.Path.{_≡_, refl, sym, ap, _∙_, subst}
+use mathlib.Core.Path.{_≡_, sym, _∙_, subst}
 use mathlib.Core.Bool.{_&&_}
-use Prim.Native.Nat.{ℕ, _-_, _≤_}
 use native.Mathlib.Omega.{arith}
 use lib.Dec.{T}
 use lib.Ieee.{Float, ofBits, neg, div, le}
 use lib.Ieee.Bits.{is-true}
 use lib.Ieee.Fits.{and-l, and-r}
 use Rattle.fixed.proofs.Order.{on, off}
-use Rattle.power.specs.Power.{zeroF, expLow, log2E, powerOf, fallOf, expOf}
+use Rattle.power.specs.Power.{zeroF, expLow, log2E, fallOf, expOf}
 use Rattle.power.specs.Near.{ExpNear}
 use Rattle.power.proofs.Curves.{exp-near}
 use Rattle.power.proofs.Ranges.{Room, exp-room}
 use Rattle.power.proofs.exp.Statement.{statement}
 use Rattle.power.proofs.exp.Tie as tie
-use Rattle.power.proofs.exp.Reads as reads
-use Rattle.power.proofs.exp.Lts as lts
-use Rattle.fixed.proofs.size.Reads as size-reads
-use Rattle.power.proofs.power.Reads as power-reads
-use Rattle.power.proofs.product.Reads as product-reads
 
 both : (t r : Float) → r ≡ expOf t → (r ≡ expOf t) × ExpNear t r
 both t r e = (e, subst (ExpNear t) (sym e) (exp-near t))

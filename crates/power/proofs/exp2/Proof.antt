@@ -1,9 +1,8 @@
 -- `power::exp2` meets its contract: each answer is its definition's, whose distance is `exp2-near`. Assumes nothing.
-use mathlib.Core.Path.{_≡_, refl, sym, _∙_, subst}
-use mathlib.Core.Bool.{false, not}
+use mathlib.Core.Path.{_≡_, sym, _∙_, subst}
+use mathlib.Core.Bool.{not}
 use lib.Dec.{T}
 use lib.Ieee.{Float, ofBits, neg, div, lt, le, isNan}
-use lib.Ieee.Bits.{is-true, is-false}
 use Rattle.fixed.proofs.Order.{on, off, no-number, a-number, not-lt, not-le}
 use Rattle.power.specs.Power.{exp2Low, exp2High, exp2Of}
 use Rattle.power.specs.Near.{Exp2Near}
@@ -11,10 +10,6 @@ use Rattle.power.proofs.Curves.{exp2-small, exp2-middle, exp2-near}
 use Rattle.power.proofs.Ranges.{exp2-room}
 use Rattle.power.proofs.exp2.Statement.{statement}
 use Rattle.power.proofs.exp2.Tie as tie
-use Rattle.power.proofs.exp2.Reads as reads
-use Rattle.power.proofs.exp2.Lts as lts
-use Rattle.fixed.proofs.spot.Reads as spot-reads
-use Rattle.power.proofs.power.Reads as power-reads
 
 both : (t r : Float) → r ≡ exp2Of t → (r ≡ exp2Of t) × Exp2Near t r
 both t r e = (e, subst (Exp2Near t) (sym e) (exp2-near t))

@@ -1,6 +1,6 @@
 -- `power::fraction` meets its contract: Horner's steps, then one product. Assumes nothing.
-use mathlib.Core.Path.{_≡_, refl}
-use Prim.Native.Nat.{ℕ, _+_, _*_, _/_, _%_, _≤_}
+use mathlib.Core.Path.{_≡_}
+use Prim.Native.Nat.{_*_, _/_, _%_}
 use native.Mathlib.Nat.{mul-le-mul}
 use native.Mathlib.Omega.{arith}
 use Rattle.power.specs.Power.{fractionOf}
@@ -9,10 +9,6 @@ use Rattle.power.proofs.Ranges.{steps}
 use borrow.Author.Needs.{needs}
 use Rattle.power.proofs.fraction.Statement.{statement}
 use Rattle.power.proofs.fraction.Tie as tie
-use Rattle.power.proofs.fraction.Reads as reads
-use Rattle.power.proofs.fraction.Lts as lts
-use Rattle.power.proofs.root.Reads as root-reads
-use Rattle.power.proofs.step.Reads as step-reads
 
 mul-k : tie.Need-mul-k
 mul-k c = search needs

@@ -1,23 +1,16 @@
 -- `power::pow10` meets its contract: each answer is its definition's, whose distance is `pow10-near`. Assumes nothing.
-use mathlib.Core.Path.{_≡_, refl, sym, ap, _∙_, subst}
-use mathlib.Core.Bool.{false, not}
-use Prim.Native.Nat.{ℕ, _+_, _-_, _≤_}
+use mathlib.Core.Path.{_≡_, sym, _∙_, subst}
+use mathlib.Core.Bool.{not}
 use native.Mathlib.Omega.{arith}
 use lib.Dec.{T}
-use lib.Ieee.{Float, ofBits, neg, div, lt, le, isNan}
-use lib.Ieee.Bits.{is-true, is-false}
-use Rattle.fixed.proofs.Order.{on, off, no-number, a-number, not-lt, le-not-lt, same-number}
-use Rattle.power.specs.Power.{zeroF, tenLow, tenHigh, log2Ten, powerOf, fallOf, riseOf, pow10Of}
+use lib.Ieee.{Float, ofBits, neg, div, le, isNan}
+use Rattle.fixed.proofs.Order.{on, off, no-number, a-number, not-lt}
+use Rattle.power.specs.Power.{tenLow, tenHigh, log2Ten, pow10Of}
 use Rattle.power.specs.Near.{Pow10Near}
 use Rattle.power.proofs.Curves.{pow10-near, ten-below, ten-above}
 use Rattle.power.proofs.Ranges.{Room, ten-room}
 use Rattle.power.proofs.pow10.Statement.{statement}
 use Rattle.power.proofs.pow10.Tie as tie
-use Rattle.power.proofs.pow10.Reads as reads
-use Rattle.power.proofs.pow10.Lts as lts
-use Rattle.fixed.proofs.size.Reads as size-reads
-use Rattle.power.proofs.power.Reads as power-reads
-use Rattle.power.proofs.product.Reads as product-reads
 
 both : (t r : Float) → r ≡ pow10Of t → (r ≡ pow10Of t) × Pow10Near t r
 both t r e = (e, subst (Pow10Near t) (sym e) (pow10-near t))

@@ -1,5 +1,4 @@
 -- `power::power` meets its contract. Assumes nothing.
-use mathlib.Core.Path.{_≡_}
 use Prim.Native.Nat.{_+_, _/_}
 use native.Mathlib.Omega.{arith}
 use Rattle.fixed.proofs.Fields.{bits-no-nan}
@@ -7,10 +6,6 @@ use Rattle.power.specs.Power.{significandOf, powerOf}
 use borrow.Author.Needs.{needs}
 use Rattle.power.proofs.power.Statement.{statement}
 use Rattle.power.proofs.power.Tie as tie
-use Rattle.power.proofs.power.Reads as reads
-use Rattle.power.proofs.power.Lts as lts
-use Rattle.fixed.proofs.two_to.Reads as two-to-reads
-use Rattle.power.proofs.fraction.Reads as fraction-reads
 
 fraction-requires : tie.Need-fraction-requires
 fraction-requires c κs = search needs

@@ -3,8 +3,6 @@ use native.Mathlib.Omega.{arith}
 use Rattle.power.proofs.Ranges.{product-room, product-parts}
 use Rattle.power.proofs.product.Statement.{statement}
 use Rattle.power.proofs.product.Tie as tie
-use Rattle.power.proofs.product.Reads as reads
-use Rattle.power.proofs.product.Lts as lts
 
 mul-result : tie.Need-mul-result
 mul-result c = omega (arith, product-room (c .args .v) (c .args .k) (c .pre .0) (c .pre .1))

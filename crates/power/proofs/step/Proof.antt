@@ -3,8 +3,6 @@ use native.Mathlib.Omega.{arith}
 use Rattle.power.proofs.Ranges.{step-room}
 use Rattle.power.proofs.step.Statement.{statement}
 use Rattle.power.proofs.step.Tie as tie
-use Rattle.power.proofs.step.Reads as reads
-use Rattle.power.proofs.step.Lts as lts
 
 mul-result : tie.Need-mul-result
 mul-result c = omega (arith, step-room (c .args .y) (c .args .k) (c .pre .1) (c .pre .2))

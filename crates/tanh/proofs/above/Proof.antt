@@ -1,25 +1,17 @@
 -- `tanh::above` meets its contract. Assumes nothing.
-use mathlib.Core.Path.{_≡_, sym, ap, _∙_}
+use mathlib.Core.Path.{_∙_}
 use mathlib.Core.Bool.{not}
 use native.Mathlib.Omega.{arith}
 use lib.Dec.{T}
-use lib.Ieee.{Float, ofBits, lt, le, isNan}
+use lib.Ieee.{ofBits, lt, le, isNan}
 use lib.Ieee.Bits.{is-true, is-false}
-use Rattle.fixed.specs.Fixed.{packOf}
 use Rattle.fixed.proofs.Order.{on, off, le-right, not-lt, not-le}
 use Rattle.power.specs.Power.{zeroF}
-use Rattle.tanh.specs.Tanh.{one, tiny, ten, quotientOf, decayOf, aboveOf}
+use Rattle.tanh.specs.Tanh.{tiny, ten, aboveOf}
 use Rattle.tanh.proofs.Ranges.{Room, room}
 use borrow.Author.Needs.{needs}
 use Rattle.tanh.proofs.above.Statement.{statement}
 use Rattle.tanh.proofs.above.Tie as tie
-use Rattle.tanh.proofs.above.Reads as reads
-use Rattle.tanh.proofs.above.Lts as lts
-use Rattle.fixed.proofs.pack.Reads as pack-reads
-use Rattle.fixed.proofs.size.Reads as size-reads
-use Rattle.power.proofs.product.Reads as product-reads
-use Rattle.tanh.proofs.decay.Reads as decay-reads
-use Rattle.tanh.proofs.quotient.Reads as quotient-reads
 
 number : (c : tie.Start) → T (not (isNan (c .args .a)))
 number c = le-right zeroF (c .args .a) (c .pre)

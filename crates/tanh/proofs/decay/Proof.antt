@@ -1,13 +1,10 @@
 -- `tanh::decay` meets its contract. Assumes nothing.
-use mathlib.Core.Path.{_≡_, refl}
+use mathlib.Core.Path.{refl}
 use Rattle.tanh.specs.Tanh.{decayOf}
 use Rattle.tanh.proofs.Method.{decay-le}
 use borrow.Author.Needs.{needs}
 use Rattle.tanh.proofs.decay.Statement.{statement}
 use Rattle.tanh.proofs.decay.Tie as tie
-use Rattle.tanh.proofs.decay.Reads as reads
-use Rattle.tanh.proofs.decay.Lts as lts
-use Rattle.power.proofs.fraction.Reads as fraction-reads
 
 sub-w : tie.Need-sub-w
 sub-w c = search needs

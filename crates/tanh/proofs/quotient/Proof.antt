@@ -4,8 +4,6 @@ use Rattle.tanh.specs.Tanh.{quotientOf}
 use borrow.Author.Needs.{needs}
 use Rattle.tanh.proofs.quotient.Statement.{statement}
 use Rattle.tanh.proofs.quotient.Tie as tie
-use Rattle.tanh.proofs.quotient.Reads as reads
-use Rattle.tanh.proofs.quotient.Lts as lts
 
 sub-result : tie.Need-sub-result
 sub-result c = search needs

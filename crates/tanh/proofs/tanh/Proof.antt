@@ -2,7 +2,7 @@
 use mathlib.Core.Path.{_≡_, sym, ap, _∙_, subst}
 use mathlib.Core.Bool.{not}
 use lib.Dec.{T}
-use lib.Ieee.{Float, ofBits, neg, lt, le, isNan}
+use lib.Ieee.{Float, ofBits, neg, lt, isNan}
 use lib.Ieee.Bits.{is-true, is-false}
 use Rattle.fixed.proofs.Order.{on, off, a-number, no-number, not-lt, same-number, neg-below}
 use Rattle.power.specs.Power.{zeroF}
@@ -11,9 +11,6 @@ use Rattle.tanh.specs.Near.{TanhNear}
 use Rattle.tanh.proofs.Curve.{tanh-near}
 use Rattle.tanh.proofs.tanh.Statement.{statement}
 use Rattle.tanh.proofs.tanh.Tie as tie
-use Rattle.tanh.proofs.tanh.Reads as reads
-use Rattle.tanh.proofs.tanh.Lts as lts
-use Rattle.tanh.proofs.above.Reads as above-reads
 
 both : (x r : Float) → r ≡ tanhOf x → (r ≡ tanhOf x) × TanhNear x r
 both x r e = (e, subst (TanhNear x) (sym e) (tanh-near x))

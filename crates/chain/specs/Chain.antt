@@ -1,0 +1,120 @@
+-- A voice's chain, from analog.rs. Definitions only.
+use Prim.Native.Nat.{ℕ, _+_, _*_}
+use mathlib.Core.Bool.{true, false, cond}
+use mathlib.Core.List.{List}
+use lib.Ieee.{Float, nan, neg, lt, le}
+use lib.Ieee.Scale.{finite}
+use Rattle.float.specs.Consts.{k0, k1, k2, k8, k10, k12, k16, k60, k64, k127, k440, k512, k21600, k22000, k32512, k48000, k65536, k0p3, k0p97, k1p01, kPi, kTau}
+use Rattle.float.specs.Ops.{_⊕_, _⊖_, _⊗_, _⊘_}
+use Rattle.float.specs.Floats.{minOf, maxOf, clampOf}
+use Rattle.frame.specs.Frame.{wordF, signedF, bytesAt, fltCode, fltTypeOf}
+use Rattle.frame.specs.declared.FltType.{FltType}
+use Rattle.frame.specs.declared.FltType.the-variants.{Lp2, Lp1, Bp, Hp1, Hp2, Bs, Pk}
+use Rattle.envelope.specs.declared.SegEnv.{SegEnv}
+use Rattle.envelope.specs.Moves.{segOf}
+use Rattle.power.specs.Power.{exp2Of, expOf}
+use Rattle.sine.specs.Sine.{tanOf}
+use Rattle.tanh.specs.Tanh.{tanhOf}
+use Rattle.chain.specs.declared.Chain.{Chain}
+use Rattle.chain.specs.declared.ChainOut.{ChainOut}
+use Rattle.chain.specs.declared.Reads.{Reads}
+use Rattle.chain.specs.declared.Coefs.{Coefs}
+use Rattle.chain.specs.declared.Svf.{Svf}
+use Rattle.chain.specs.declared.Filtered.{Filtered}
+
+-- what stands for an element past the end of a list, where no step looks
+abbrev pub noSeg : SegEnv
+noSeg = record { key = record { start = 0; target = 0; rate = 0 }; level = nan; hold = false; cmd = false }
+
+abbrev pub noChain : Chain
+noChain = record { amp = noSeg; flt = noSeg; low = nan; band = nan; lp1 = nan }
+
+-- `Chain::default`
+unfoldable pub chainNew : Chain
+chainNew =
+    let e : SegEnv = record { key = record { start = 0; target = 0; rate = 0 }; level = k0; hold = false; cmd = false } in
+    record { amp = e; flt = e; low = k0; band = k0; lp1 = k0 }
+
+-- voice v's words and records: overdrive at 42+2v, filter frequency 58+2v, resonance 74+2v, amp record 168+8v, filter record 296+8v with the depth as its first word
+unfoldable pub readOf : List ℕ → ℕ → Reads
+readOf f v = record {
+  ovr = wordF f (42 + 2 * v);
+  frq = signedF f (58 + 2 * v);
+  depth = signedF f (296 + 8 * v);
+  res = wordF f (74 + 2 * v);
+  kind = fltTypeOf (fltCode f v);
+  ra = bytesAt f (168 + 8 * v);
+  rf = bytesAt f (296 + 8 * v);
+}
+
+-- the overdriven sample
+unfoldable pub driveOf : Float → Float → Float
+driveOf word x =
+    let ovr = clampOf (word ⊘ k65536) k0 k1 in
+    let drive = k1 ⊕ k8 ⊗ ovr ⊗ ovr in
+    cond (lt k1p01 drive) (tanhOf (x ⊗ drive) ⊘ maxOf (tanhOf drive) k0p3) x
+
+-- the cutoff in Hz, from FRQ, the depth and the filter's level
+unfoldable pub cutoffOf : Float → Float → Float → Float
+cutoffOf frq depth level =
+    let cv = frq ⊕ depth ⊗ (maxOf level k0 ⊘ k127) in
+    clampOf (k440 ⊗ exp2Of ((cv ⊘ k512 ⊕ k64 ⊖ k60) ⊘ k12)) k10 k22000
+
+unfoldable pub resOf : Float → Float
+resOf word = clampOf (word ⊘ k32512) k0 k1
+
+-- tangent, damping and quotients, of the cutoff and the resonance
+unfoldable pub coefsOf : Float → Float → Coefs
+coefsOf fc res =
+    let g = tanOf (kPi ⊗ minOf fc k21600 ⊘ k48000) in
+    let k = k2 ⊗ (k1 ⊖ k0p97 ⊗ res) in
+    let a1 = k1 ⊘ (k1 ⊕ g ⊗ (g ⊕ k)) in
+    record { k = k; a1 = a1; a2 = g ⊗ a1; a3 = g ⊗ g ⊗ a1 }
+
+-- the state-variable filter
+unfoldable pub svfOf : Float → Float → Float → Coefs → Svf
+svfOf low band x c =
+    let v3 = x ⊖ low in
+    let bp = c .a1 ⊗ band ⊕ c .a2 ⊗ v3 in
+    let lp = low ⊕ c .a2 ⊗ band ⊕ c .a3 ⊗ v3 in
+    record { low = k2 ⊗ lp ⊖ low; band = k2 ⊗ bp ⊖ band; lp = lp; bp = bp; hp = x ⊖ c .k ⊗ bp ⊖ lp }
+
+-- the one-pole
+unfoldable pub lp1Of : Float → Float → Float → Float
+lp1Of lp1 x fc = lp1 ⊕ (k1 ⊖ expOf (neg kTau ⊗ fc ⊘ k48000)) ⊗ (x ⊖ lp1)
+
+-- the output of each filter type
+unfoldable pub pickOf : FltType → Svf → Float → Float → Float → Float → Float
+pickOf Lp2 s lp1 x k res = s .lp
+pickOf Lp1 s lp1 x k res = lp1
+pickOf Bp s lp1 x k res = s .bp
+pickOf Hp1 s lp1 x k res = x ⊖ lp1
+pickOf Hp2 s lp1 x k res = s .hp
+pickOf Bs s lp1 x k res = s .lp ⊕ s .hp
+pickOf Pk s lp1 x k res = x ⊕ s .bp ⊗ k ⊗ k2 ⊗ res
+
+-- the filtered sample: where it is not finite it is 0 and the two integrators are cleared, not the one-pole
+unfoldable pub finiteOr : Svf → Float → Float → Filtered
+finiteOr s lp1 y = cond (finite y) (record { low = s .low; band = s .band; lp1 = lp1; y = y }) (record { low = k0; band = k0; lp1 = lp1; y = k0 })
+
+unfoldable pub filterOf : Chain → Reads → Float → Float → Filtered
+filterOf c i fc x =
+    let res = resOf (i .res) in
+    let q = coefsOf fc res in
+    let s = svfOf (c .low) (c .band) x q in
+    let lp1 = lp1Of (c .lp1) x fc in
+    finiteOr s lp1 (pickOf (i .kind) s lp1 x (q .k) res)
+
+-- "the chain gain 0 at or below 0", else 2 ^ ((level - 127) / 16)
+unfoldable pub gainOf : Float → Float
+gainOf level = cond (le level k0) k0 (exp2Of ((level ⊖ k127) ⊘ k16))
+
+-- `Chain::process`
+unfoldable pub processOf : List ℕ → ℕ → Float → Chain → ChainOut
+processOf f v x c =
+    let i = readOf f v in
+    let flt = segOf false (i .rf) (c .flt) in
+    let amp = segOf true (i .ra) (c .amp) in
+    let fc = cutoffOf (i .frq) (i .depth) (flt .level) in
+    let s = filterOf c i fc (driveOf (i .ovr) x) in
+    record { chain = record { amp = amp; flt = flt; low = s .low; band = s .band; lp1 = s .lp1 }; y = s .y ⊗ gainOf (amp .level) }

@@ -1,0 +1,2 @@
+-- Laws of `comp`.
+pub mod Constants

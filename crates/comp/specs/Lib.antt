@@ -1,0 +1,4 @@
+-- The definitions that the contracts of `comp` cite, and its constants.
+pub mod Consts
+pub mod Tables
+pub mod Comp

@@ -50,4 +50,5 @@ constants = record {
   cM7p38 = refl;
   cM6p34 = refl;
   cM6p26 = refl;
+  cM18p85 = refl;
 }

@@ -1,2 +1,3 @@
 -- Laws of `comp`.
 pub mod Constants
+pub mod Volume

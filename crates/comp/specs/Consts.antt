@@ -179,6 +179,10 @@ kM6p34 = neg (ofBits binary32 0x40cae148)
 abbrev pub kM6p26 : Float
 kM6p26 = neg (ofBits binary32 0x40c851ec)
 
+-- -18.85, VOL 0
+abbrev pub kM18p85 : Float
+kM18p85 = neg (ofBits binary32 0x4196cccd)
+
 pub record Constants : Type 0 where
   pub c20 : k20 ≡ near 20 1
   pub c30 : k30 ≡ near 30 1
@@ -224,3 +228,4 @@ pub record Constants : Type 0 where
   pub cM7p38 : kM7p38 ≡ neg (near 369 50)
   pub cM6p34 : kM6p34 ≡ neg (near 317 50)
   pub cM6p26 : kM6p26 ≡ neg (near 313 50)
+  pub cM18p85 : kM18p85 ≡ neg (near 377 20)

@@ -1,0 +1,2 @@
+-- The definitions that the contracts of `bus` cite.
+pub mod Bus

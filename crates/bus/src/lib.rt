@@ -1,0 +1,124 @@
+// From the sources to the main bus: each voice's chain, its receive word and its share of the mix, then the master distortion.
+use chain::Chain;
+use comp::Mix;
+ghost use mathlib.Core.Path.{_≡_};
+ghost use mathlib.Core.Bool.{Bool};
+ghost use Prim.Native.Nat.{_≤_, _<_};
+ghost use lib.ListN.{length, getD};
+ghost use lib.IntN.{pos};
+ghost use Rattle.bus.specs.Bus.{dacF, returnOf, contributionOf, addedOf, turnOf, voicesOf, distortOf, masterOf};
+
+// DAC word i / 2^23.
+fn dac_f32(dac: &[i32], i: usize) -> f32
+    requires { ⌜ i < length (now dac) ⌝ }
+    ensures { λ r. ⌜ r ≡ dacF (now (dac .entry)) i ⌝ }
+{
+    float::from_i32(dac[i]) / 8388608.0
+}
+
+// An FX return: DAC word i negated, / 2^23.
+fn returned(dac: &[i32], i: usize) -> f32
+    requires { ⌜ i < length (now dac) ⌝ }
+    ensures { λ r. ⌜ r ≡ returnOf (now (dac .entry)) i ⌝ }
+{
+    -float::from_i32(dac[i]) / 8388608.0
+}
+
+// What voice v adds to a side, whose VCA words stand from `vca` on.
+fn contribution(f: &[u8], vca: usize, v: usize, y: f32) -> f32
+    requires { ⌜ (664 ≤ length (now f)) × (vca ≤ 26) × (v < 8) ⌝ }
+    ensures { λ r. ⌜ r ≡ contributionOf (now (f .entry)) vca v y ⌝ }
+{
+    y * frame::word_f32(f, vca + 2 * v) / 32767.0
+}
+
+// The mix with voice v's sample, unless it is routed off.
+fn added(f: &[u8], v: usize, m: Mix, y: f32) -> Mix
+    requires { ⌜ (664 ≤ length (now f)) × (v < 8) ⌝ }
+    ensures { λ r. ⌜ r ≡ addedOf (now (f .entry)) v m y ⌝ }
+{
+    if frame::routed_off(f, v) {
+        return m;
+    }
+    Mix {
+        l: m.l + contribution(f, 10, v, y),
+        r: m.r + contribution(f, 26, v, y),
+    }
+}
+
+// The chains, the receive words and the mix, as far as the voices have gone.
+pub struct Bus {
+    pub chains: [Chain; 8],
+    pub rx: [i32; 12],
+    pub mix: Mix,
+}
+
+// Voice v: its source and its DAC word through its chain.
+fn turn(b: Bus, f: &[u8], dac: &[i32], src: [f32; 8], v: usize) -> Bus
+    requires { ⌜ (664 ≤ length (now f)) × (16 ≤ length (now dac)) × (v < 8) ⌝ }
+    ensures { λ r. ⌜ r ≡ turnOf (now (f .entry)) (now (dac .entry)) src v b ⌝ }
+{
+    let x = src[v] + dac_f32(dac, v) * 0.5;
+    let mut next = b;
+    let c = next.chains[v];
+    let o = c.process(f, v, x);
+    let chain = o.chain;
+    next.chains[v] = chain;
+    let w = float::to24(o.y * 0.5);
+    next.rx[v] = w;
+    let was = next.mix;
+    let m = added(f, v, was, o.y);
+    next.mix = m;
+    next
+}
+
+// Voices 0 to 7 in turn.
+pub fn voices(chains: [Chain; 8], f: &[u8], dac: &[i32], src: [f32; 8]) -> Bus
+    requires { ⌜ (664 ≤ length (now f)) × (16 ≤ length (now dac)) ⌝ }
+    ensures { λ r. ⌜ r ≡ voicesOf (now (f .entry)) (now (dac .entry)) src chains ⌝ }
+{
+    let mut b = Bus {
+        chains,
+        rx: [0; 12],
+        mix: Mix { l: 0.0, r: 0.0 },
+    };
+    let mut v: usize = 0;
+    while v < 8 {
+        b = turn(b, f, dac, src, v);
+        v += 1;
+    }
+    b
+}
+
+// The master distortion, of the amount word 0.
+fn distort(f: &[u8], m: Mix) -> Mix
+    requires { ⌜ 664 ≤ length (now f) ⌝ }
+    ensures { λ r. ⌜ r ≡ distortOf (now (f .entry)) m ⌝ }
+{
+    let dist = float::clamp(frame::word_f32(f, 0) / 65536.0, 0.0, 1.0);
+    if 0.0 < dist {
+        let k = 1.0 + 15.0 * dist;
+        let n = tanh::tanh(k);
+        return Mix {
+            l: tanh::tanh(m.l * k) / n,
+            r: tanh::tanh(m.r * k) / n,
+        };
+    }
+    m
+}
+
+// The FX returns before and after the distortion, written negated, and the external input.
+pub fn master(f: &[u8], dac: &[i32], m: Mix, ext: Mix) -> Mix
+    requires { ⌜ (664 ≤ length (now f)) × (16 ≤ length (now dac)) ⌝ }
+    ensures { λ r. ⌜ r ≡ masterOf (now (f .entry)) (now (dac .entry)) m ext ⌝ }
+{
+    let pre = Mix {
+        l: m.l + returned(dac, 12),
+        r: m.r + returned(dac, 13),
+    };
+    let d = distort(f, pre);
+    Mix {
+        l: d.l + returned(dac, 14) + ext.l,
+        r: d.r + returned(dac, 15) + ext.r,
+    }
+}

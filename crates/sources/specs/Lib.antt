@@ -1,0 +1,2 @@
+-- The definitions that the contracts of `sources` cite.
+pub mod Sources

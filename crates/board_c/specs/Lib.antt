@@ -1,0 +1,2 @@
+-- The definitions that the contracts of `board_c` cite.
+pub mod Calls

@@ -1,0 +1,70 @@
+// The board under C names: a fresh board, and a step. The caller tests nothing beforehand.
+use board::Analog;
+use board::Inputs;
+use board::Outcome;
+use comp::Mix;
+ghost use mathlib.Core.Path.{_≡_};
+ghost use Rattle.board.specs.Board.{freshOf, numberOf, answerOf};
+ghost use Rattle.board_c.specs.Calls.{inputsOf, numbered};
+
+// A step's answer, with the number of its refusal, 0 for none.
+#[repr(C)]
+pub struct Answer {
+    pub number: u32,
+    pub rx: [i32; 12],
+    pub mix: Mix,
+    pub board: Analog,
+}
+
+fn number(o: Outcome) -> u32
+    ensures { λ r. ⌜ r ≡ numberOf o ⌝ }
+{
+    match o {
+        Outcome::Done => 0,
+        Outcome::ShortFrame => 1,
+        Outcome::ShortParameters => 2,
+        Outcome::DacCount => 3,
+        Outcome::DacRange => 4,
+        Outcome::InputRange => 5,
+    }
+}
+
+#[no_mangle]
+pub extern "C" fn rytm_fresh(seed: u32, ideal: bool) -> Analog
+    ensures { λ r. ⌜ r ≡ freshOf seed ideal ⌝ }
+{
+    board::fresh(seed, ideal)
+}
+
+#[no_mangle]
+pub extern "C" fn rytm_step(
+    board: Analog,
+    frame: &[u8],
+    dac: &[i32],
+    fx: &[u8],
+    audio_l: f32,
+    audio_r: f32,
+    ext_l: f32,
+    ext_r: f32,
+) -> Answer
+    ensures { λ r. ⌜ r ≡ numbered (answerOf board (now (frame .entry)) (now (dac .entry)) (now (fx .entry)) (inputsOf «audio_l» «audio_r» «ext_l» «ext_r»)) ⌝ }
+{
+    let x = Inputs {
+        audio: Mix {
+            l: audio_l,
+            r: audio_r,
+        },
+        ext: Mix { l: ext_l, r: ext_r },
+    };
+    let a = board::step(board, frame, dac, fx, x);
+    let outcome = a.outcome;
+    let rx = a.rx;
+    let mix = a.mix;
+    let next = a.board;
+    Answer {
+        number: number(outcome),
+        rx,
+        mix,
+        board: next,
+    }
+}

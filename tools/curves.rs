@@ -2,7 +2,11 @@
 //! worst error in units of the last place, and the answers outside a curve's range. sqrt must equal Rust's outright.
 //!
 //!     --every N   only every Nth bit pattern (default 1)
+//!     --time      times each curve beside Rust's library instead
 //!     CURVE...    only these
+
+#[path = "curves/timing.rs"]
+mod timing;
 
 use std::sync::atomic::{AtomicU64, Ordering};
 use std::sync::Mutex;
@@ -34,6 +38,9 @@ struct Curve {
     relative: bool,
     /// The distance allowed is two to this.
     bound: i32,
+    /// Rust's own, and the arguments on which both are timed.
+    rust: fn(f32) -> f32,
+    timed: (f32, f32),
     specials: &'static [f32],
 }
 
@@ -47,6 +54,8 @@ const CURVES: [Curve; 8] = [
         outside: |x| if x < -126.0 { 0.0 } else if x >= 127.0 { INF } else { NAN },
         relative: true,
         bound: -18,
+        rust: f32::exp2,
+        timed: (-8.0, 1.0),
         specials: &[-INF, -1000.0, -126.00001, -126.0, -1.0, -0.0, 0.0, 1e-45, 1.0, 126.0, 126.99999, 127.0, 128.0, INF, NAN],
     },
     Curve {
@@ -58,6 +67,8 @@ const CURVES: [Curve; 8] = [
         outside: |_| NAN,
         relative: true,
         bound: -18,
+        rust: f32::exp,
+        timed: (-3.0, 0.0),
         specials: &[-INF, -3.0000002, -3.0, -1.0, -1e-45, -0.0, 0.0, 1e-45, 1.0, INF, NAN],
     },
     Curve {
@@ -69,6 +80,8 @@ const CURVES: [Curve; 8] = [
         outside: |x| if x < -37.0 { 0.0 } else if x > 37.0 { INF } else { NAN },
         relative: true,
         bound: -14,
+        rust: |x| 10f32.powf(x),
+        timed: (-3.0, 3.0),
         specials: &[-INF, -37.000004, -37.0, -1.0, -0.0, 0.0, 1.0, 37.0, 37.000004, INF, NAN],
     },
     Curve {
@@ -80,6 +93,8 @@ const CURVES: [Curve; 8] = [
         outside: |_| NAN,
         relative: false,
         bound: -20,
+        rust: f32::sin,
+        timed: (0.0, 6.2831855),
         specials: &[-INF, -1.0, -1e-45, -0.0, 0.0, 1e-45, 1.5707964, 3.1415927, 6.2831855, 8.0, 8.000001, INF, NAN],
     },
     Curve {
@@ -91,6 +106,8 @@ const CURVES: [Curve; 8] = [
         outside: |_| NAN,
         relative: false,
         bound: -20,
+        rust: f32::cos,
+        timed: (0.0, 6.2831855),
         specials: &[-INF, -1.0, -1e-45, -0.0, 0.0, 1e-45, 1.5707964, 3.1415927, 6.2831855, 8.0, 8.000001, INF, NAN],
     },
     Curve {
@@ -102,6 +119,8 @@ const CURVES: [Curve; 8] = [
         outside: |_| NAN,
         relative: true,
         bound: -16,
+        rust: f32::tan,
+        timed: (0.0, 1.5),
         specials: &[-INF, -1.0, -1e-45, -0.0, 0.0, 1e-45, 1e-38, 0.7853982, 1.5, 1.5000001, INF, NAN],
     },
     Curve {
@@ -113,6 +132,8 @@ const CURVES: [Curve; 8] = [
         outside: |x| if x.is_nan() { NAN } else { x.signum() },
         relative: false,
         bound: -18,
+        rust: f32::tanh,
+        timed: (-4.0, 4.0),
         specials: &[-INF, -100.0, -1.0, -1e-45, -0.0, 0.0, 1e-45, 1.0, 9.0, 100.0, INF, NAN],
     },
     Curve {
@@ -124,6 +145,8 @@ const CURVES: [Curve; 8] = [
         outside: |x| if x == INF { INF } else { NAN },
         relative: false,
         bound: -16,
+        rust: f32::log10,
+        timed: (0.000001, 2.0),
         specials: &[-INF, -1.0, -0.0, 0.0, 1e-45, 9.999999e-7, 1e-6, 0.1, 1.0, 10.0, f32::MAX, INF, NAN],
     },
 ];
@@ -284,10 +307,21 @@ fn main() {
         every = words.get(i + 1).and_then(|w| w.parse().ok()).filter(|&n| n > 0).expect("--every takes a number");
         words.drain(i..i + 2);
     }
+    let time = words.iter().any(|w| w == "--time");
+    words.retain(|w| w != "--time");
     if let Some(w) = words.iter().find(|w| *w != "sqrt" && CURVES.iter().all(|c| c.name != **w)) {
         panic!("no curve {w}");
     }
     let chosen = |name: &str| words.is_empty() || words.iter().any(|w| w == name);
+    if time {
+        for c in CURVES.iter().filter(|c| chosen(c.name)) {
+            timing::compare(c.name, c.timed, c.port, c.rust);
+        }
+        if chosen("sqrt") {
+            timing::compare("sqrt", (0.0, 134215680.0), rytm_sqrt, f32::sqrt);
+        }
+        return;
+    }
     let mut bad = 0;
     for c in CURVES.iter().filter(|c| chosen(c.name)) {
         bad += measure(c, every);

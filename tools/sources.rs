@@ -7,6 +7,9 @@
 
 #[path = "../target/oracle/mod.rs"]
 mod oracle;
+#[allow(dead_code)]
+#[path = "../examples/rytm.rs"]
+mod rytm;
 
 #[path = "sources/coverage.rs"]
 mod coverage;
@@ -18,15 +21,18 @@ mod frames;
 mod port;
 #[path = "sources/rng.rs"]
 mod rng;
+#[path = "sources/state.rs"]
+mod state;
 #[path = "sources/states.rs"]
 mod states;
 
 use coverage::Coverage;
-use fields::Row;
 use frames::{Frames, Style, STYLES};
 use oracle::analog as rust;
-use port::{Model, Source, State, Wobble, SOURCES};
+use port::Model;
 use rng::Rng;
+use rytm::Wobble;
+use state::{Source, State, SOURCES};
 
 /// One source on both sides.
 struct Twin {
@@ -76,8 +82,8 @@ impl Report {
         let (state, next, y) = twin.port.sample(f, dac, draws.port);
         let rust_y = twin.model.sample(f, dac, &mut draws.model);
         let rust_state = twin.model.state();
-        let (ours, theirs) = (Row::of(&state, next, y), Row::of(&rust_state, draws.of_model(), rust_y));
-        self.cover.note(&before, &rust_state, f, dac, w.depth, rust_y);
+        let (ours, theirs) = (port::row(&state, &next, y), port::row(&rust_state, &draws.of_model(), rust_y));
+        self.cover.note(&before, &rust_state, f, dac, w.depth);
         self.compared += 1;
         (twin.port, draws.port) = (state, next);
         if ours == theirs {
@@ -86,10 +92,11 @@ impl Report {
         if self.of[twin.index] == 0 {
             let (source, name) = SOURCES[twin.index];
             println!("{name} ({}) differs at sample {}: episode {}, {}", place.run, place.at, place.episode, place.style);
-            for field in ours.against(&theirs, source) {
+            let names = port::names(&state, &w);
+            for (_, field) in ours.against(&theirs, &names) {
                 println!("  {field}");
             }
-            println!("  before: {}", Row::of(&before, w, 0.0).all(source));
+            println!("  before: {}", port::row(&before, &w, 0.0).all(&names, 1));
             for part in fields::concerned(source) {
                 let bytes: Vec<String> = f[part.clone()].iter().map(|b| format!("{b:02x}")).collect();
                 println!("  frame {}..{}: {}", part.start, part.end, bytes.join(" "));
@@ -137,7 +144,9 @@ fn run(report: &mut Report, run: &str, indexes: std::ops::Range<usize>, steps: u
             draws = scatter(rng, &mut twins, &frames);
         }
         for _ in 0..(length as u64).min(steps - place.at) {
-            frames.step(rng);
+            if frames.due(rng) {
+                frames.write(rng);
+            }
             if style == Style::States && rng.one_in(8) {
                 draws = scatter(rng, &mut twins, &frames);
             }
@@ -176,11 +185,12 @@ fn main() {
     let mut rng = Rng::new(seed);
     let mut report = Report { compared: 0, differ: 0, of: [0; 8], cover: Coverage::new() };
     let w = Wobble { s: 1, depth: 1.0 };
-    for (index, (source, name)) in SOURCES.into_iter().enumerate() {
+    for (index, (_, name)) in SOURCES.into_iter().enumerate() {
         let twin = fresh(index);
-        let (ours, theirs) = (Row::of(&twin.port, w, 0.0), Row::of(&twin.model.state(), w, 0.0));
+        let (ours, theirs) = (port::row(&twin.port, &w, 0.0), port::row(&twin.model.state(), &w, 0.0));
         if ours != theirs {
-            println!("{name}: fresh states differ: {}", ours.against(&theirs, source).join("; "));
+            let fields: Vec<String> = ours.against(&theirs, &port::names(&twin.port, &w)).into_iter().map(|(_, text)| text).collect();
+            println!("{name}: fresh states differ: {}", fields.join("; "));
             report.differ += 1;
         }
     }

@@ -1,7 +1,8 @@
 //! What the cases met, read off the Rust's states before and after a sample.
 
 use crate::oracle::analog as rust;
-use crate::port::{Env, State, DUALS, SOURCES};
+use crate::rytm::Env;
+use crate::state::{State, DUALS, SOURCES};
 use rust::{bit, word, Record};
 
 macro_rules! counts {
@@ -25,20 +26,20 @@ counts! {
     Backwards "dual: FM phase falls by less than 0.2",
     One "dual: FM phase rounds to exactly 1",
     Silent "dual: silent at the floor",
-    DualNan "dual: sample not a number",
+    DualNan "dual: a phase or level not a number",
     HatHit "hat: hits",
     HatDraw "hat: hits after silence, phases drawn",
     HatPark "hat: parked while sounding",
     HatHitParked "hat: hit and parked at once",
     HatSounds "hat: sounding",
     HatDark "hat: colour below 0",
-    HatNan "hat: sample not finite",
+    HatNan "hat: filter not finite",
     CymHit "cymbal: hits",
     CymDraw "cymbal: hits after silence, phases drawn",
     CymSounds "cymbal: sounding with three or more oscillators",
     Cowbell "cymbal: sounding with one or two oscillators",
     NoBank "cymbal: sounding with none",
-    CymNan "cymbal: sample not finite",
+    CymNan "cymbal: filter not finite",
     TomDraw "tom: redraws",
     Rest62 "tom: word after 62 zeros",
     Rest63 "tom: word after 63 zeros, no redraw",
@@ -92,7 +93,7 @@ impl Coverage {
         self.count[c as usize] += met as u64;
     }
 
-    pub fn note(&mut self, before: &State, after: &State, f: &[u8], dac: &[i32; 16], depth: f32, y: f32) {
+    pub fn note(&mut self, before: &State, after: &State, f: &[u8], dac: &[i32; 16], depth: f32) {
         use Count::*;
         self.add(Ideal, depth == 0.0);
         match (before, after) {
@@ -118,7 +119,7 @@ impl Coverage {
                 self.add(Backwards, fm && bit(f, s.sw[0]) <= b.trig && a.ph1 < b.ph1 && b.ph1 - a.ph1 < 0.2);
                 self.add(One, fm && a.ph1 == 1.0 && b.ph1 != 1.0);
                 self.add(Silent, a.amp.level <= -127.5);
-                self.add(DualNan, y.is_nan());
+                self.add(DualNan, (a.ph1 + a.ph2 + a.amp.level).is_nan());
             }
             (State::Hat(b), State::Hat(a)) => {
                 let hit = f[492] >> 4 == 0xF && b.mode != 0xF;
@@ -130,7 +131,7 @@ impl Coverage {
                 self.way[7].note(b.env, a.env, hit);
                 self.add(HatSounds, a.env.level > -127.5);
                 self.add(HatDark, a.env.level > -127.5 && f[130] >= 0x80);
-                self.add(HatNan, !y.is_finite());
+                self.add(HatNan, !(a.hp.low + a.hp.band).is_finite());
             }
             (State::Cym(b), State::Cym(a)) => {
                 let mut hit = false;
@@ -150,7 +151,7 @@ impl Coverage {
                     let running = (0..6).filter(|k| u32::from_be_bytes(f[640 + 4 * k..644 + 4 * k].try_into().unwrap()) & 0x3f_ffff != 0).count();
                     self.add([NoBank, Cowbell, CymSounds][running.div_ceil(2).min(2)], true);
                 }
-                self.add(CymNan, !y.is_finite());
+                self.add(CymNan, a.svf.iter().any(|s| !(s.low + s.band).is_finite()));
             }
             (State::Tom(i, b), State::Tom(_, a)) => {
                 let moved = dac[8 + i] != 0;
@@ -168,7 +169,7 @@ impl Coverage {
                 self.add(NegativeDecay, rings && decay < 0);
                 self.add(Parked, tune == 65535.0);
                 self.add(NoPitch, hz < 10.0);
-                self.add(TomNan, !y.is_finite());
+                self.add(TomNan, !a.y1.is_finite());
             }
             _ => unreachable!(),
         }

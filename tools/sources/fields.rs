@@ -1,127 +1,182 @@
-//! A state, the random state and the sample as a row of words that compare bit for bit, with the fields' names.
+//! Structures as a row of words that compare bit for bit, and the names of those words.
 
-use crate::port::{Source, State, Wobble};
+use crate::rytm::{Cym, DualOsc, Env, Hat, Tom, Wobble};
+use crate::state::Source;
 
-const MOST: usize = 41;
+/// What takes the fields of a structure one after the other.
+pub trait Fields {
+    /// One word of the field; floats are said to be such.
+    fn put(&mut self, name: &'static str, index: Option<usize>, word: u32, float: bool);
+    /// The fields to come belong to this part, until `leave`.
+    fn enter(&mut self, name: &'static str, index: Option<usize>);
+    fn leave(&mut self);
 
-/// Each field as a word; every value that is not a number as the same one.
-#[derive(Clone, Copy, PartialEq)]
+    fn word(&mut self, name: &'static str, w: u32) {
+        self.put(name, None, w, false);
+    }
+
+    fn float(&mut self, name: &'static str, x: f32) {
+        self.put(name, None, bits(x), true);
+    }
+
+    fn floats(&mut self, name: &'static str, xs: &[f32]) {
+        for (i, &x) in xs.iter().enumerate() {
+            self.put(name, Some(i), bits(x), true);
+        }
+    }
+
+    fn bytes(&mut self, name: &'static str, bs: &[u8]) {
+        for (i, &b) in bs.iter().enumerate() {
+            self.put(name, Some(i), b as u32, false);
+        }
+    }
+
+    fn levels(&mut self, name: &'static str, es: &[Env]) {
+        for (i, e) in es.iter().enumerate() {
+            self.put(name, Some(i), bits(e.level), true);
+        }
+    }
+
+    fn wobble(&mut self, w: &Wobble) {
+        self.enter("wobble", None);
+        self.word("s", w.s);
+        self.float("depth", w.depth);
+        self.leave();
+    }
+
+    fn dual(&mut self, d: &DualOsc) {
+        self.bytes("last_p", &d.last_p);
+        self.bytes("last_a", &d.last_a);
+        self.bytes("last_m", &d.last_m);
+        self.word("trig", d.trig as u32);
+        self.float("ph1", d.ph1);
+        self.float("ph2", d.ph2);
+        self.float("pitch", d.pitch.level);
+        self.float("amp", d.amp.level);
+        self.float("amp2", d.amp2.level);
+        self.floats("det", &d.det);
+        for (i, x) in d.drift.iter().enumerate() {
+            self.enter("drift", Some(i));
+            self.float("cents", x.cents);
+            self.float("ratio", x.ratio);
+            self.word("n", x.n);
+            self.leave();
+        }
+    }
+
+    fn tom(&mut self, t: &Tom) {
+        self.float("y1", t.y1);
+        self.float("y2", t.y2);
+        self.float("det", t.det);
+        self.word("quiet", t.quiet);
+    }
+
+    fn cym(&mut self, c: &Cym) {
+        self.floats("ph", &c.ph);
+        self.floats("det", &c.det);
+        self.levels("env", &c.env);
+        self.bytes("mode", &c.mode);
+        for (i, s) in c.svf.iter().enumerate() {
+            self.enter("svf", Some(i));
+            self.float("low", s.low);
+            self.float("band", s.band);
+            self.leave();
+        }
+    }
+
+    fn hat(&mut self, h: &Hat) {
+        self.floats("ph", &h.ph);
+        self.floats("det", &h.det);
+        self.float("env", h.env.level);
+        self.float("hp.low", h.hp.low);
+        self.float("hp.band", h.hp.band);
+        self.word("mode", h.mode as u32);
+    }
+}
+
+/// The bit pattern; the same for all values that are not numbers.
+pub fn bits(x: f32) -> u32 {
+    if x.is_nan() {
+        0x7fc0_0000
+    } else {
+        x.to_bits()
+    }
+}
+
+const MOST: usize = 336;
+
+/// The words alone.
 pub struct Row {
     len: usize,
     word: [u32; MOST],
-    /// Which of them are floats.
-    floats: u64,
 }
 
 impl Row {
-    fn put(&mut self, word: u32) {
+    pub fn new() -> Row {
+        Row { len: 0, word: [0; MOST] }
+    }
+
+    /// The places where the port's row differs from the Rust's, with name and both words.
+    pub fn against(&self, rust: &Row, names: &Names) -> Vec<(usize, String)> {
+        let show = |i: usize, w: u32| if names.words[i].1 { format!("{w:08x} ({:e})", f32::from_bits(w)) } else { format!("{w:x}") };
+        let differ = (0..self.len).filter(|&i| self.word[i] != rust.word[i]);
+        differ.map(|i| (i, format!("{}: port {}, Rust {}", names.words[i].0, show(i, self.word[i]), show(i, rust.word[i])))).collect()
+    }
+
+    /// All fields by name, the first few left out.
+    pub fn all(&self, names: &Names, skip: usize) -> String {
+        names.words.iter().zip(&self.word[..self.len]).skip(skip).map(|((n, _), w)| format!("{n} {w:x}")).collect::<Vec<_>>().join(", ")
+    }
+}
+
+impl PartialEq for Row {
+    fn eq(&self, other: &Row) -> bool {
+        self.word[..self.len] == other.word[..other.len]
+    }
+}
+
+impl Fields for Row {
+    #[inline]
+    fn put(&mut self, _: &'static str, _: Option<usize>, word: u32, _: bool) {
         self.word[self.len] = word;
         self.len += 1;
     }
 
-    fn float(&mut self, x: f32) {
-        self.floats |= 1 << self.len;
-        self.put(if x.is_nan() { 0x7fc0_0000 } else { x.to_bits() });
-    }
+    fn enter(&mut self, _: &'static str, _: Option<usize>) {}
 
-    fn floats(&mut self, xs: &[f32]) {
-        for &x in xs {
-            self.float(x);
-        }
-    }
+    fn leave(&mut self) {}
+}
 
-    fn bytes(&mut self, bs: &[u8]) {
-        for &b in bs {
-            self.put(b as u32);
-        }
-    }
+/// The names of a row's words, and which are floats.
+pub struct Names {
+    pub words: Vec<(String, bool)>,
+    path: Vec<String>,
+}
 
-    pub fn of(state: &State, w: Wobble, y: f32) -> Row {
-        let mut row = Row { len: 0, word: [0; MOST], floats: 0 };
-        row.float(y);
-        row.put(w.s);
-        row.float(w.depth);
-        match state {
-            State::Dual(_, d) => {
-                row.bytes(&d.last_p);
-                row.bytes(&d.last_a);
-                row.bytes(&d.last_m);
-                row.put(d.trig as u32);
-                row.floats(&[d.ph1, d.ph2, d.pitch.level, d.amp.level, d.amp2.level, d.det[0], d.det[1]]);
-                for x in &d.drift {
-                    row.floats(&[x.cents, x.ratio]);
-                    row.put(x.n);
-                }
-            }
-            State::Tom(_, t) => {
-                row.floats(&[t.y1, t.y2, t.det]);
-                row.put(t.quiet);
-            }
-            State::Cym(c) => {
-                row.floats(&c.ph);
-                row.floats(&c.det);
-                for e in &c.env {
-                    row.float(e.level);
-                }
-                row.bytes(&c.mode);
-                for s in &c.svf {
-                    row.floats(&[s.low, s.band]);
-                }
-            }
-            State::Hat(h) => {
-                row.floats(&h.ph);
-                row.floats(&h.det);
-                row.floats(&[h.env.level, h.hp.low, h.hp.band]);
-                row.bytes(&[h.mode]);
-            }
-        }
-        row
-    }
-
-    /// The fields where the port's row differs from the Rust's, with both words.
-    pub fn against(&self, rust: &Row, source: Source) -> Vec<String> {
-        let names = names(source);
-        let show = |i: usize, w: u32| if self.floats >> i & 1 != 0 { format!("{w:08x} ({:e})", f32::from_bits(w)) } else { format!("{w:x}") };
-        let differ = (0..self.len).filter(|&i| self.word[i] != rust.word[i]);
-        differ.map(|i| format!("{}: port {}, Rust {}", names[i], show(i, self.word[i]), show(i, rust.word[i]))).collect()
-    }
-
-    /// All fields by name, the sample left out.
-    pub fn all(&self, source: Source) -> String {
-        names(source).iter().zip(&self.word[..self.len]).skip(1).map(|(n, w)| format!("{n} {w:x}")).collect::<Vec<_>>().join(", ")
+impl Names {
+    pub fn new() -> Names {
+        Names { words: Vec::new(), path: Vec::new() }
     }
 }
 
-fn names(source: Source) -> Vec<String> {
-    let mut n: Vec<String> = ["sample", "wobble.s", "wobble.depth"].map(String::from).to_vec();
-    let each = |name: &str, count: usize| (0..count).map(|i| format!("{name}[{i}]")).collect::<Vec<_>>();
-    match source {
-        Source::Dual(_) => {
-            n.extend(each("last_p", 8));
-            n.extend(each("last_a", 8));
-            n.extend(each("last_m", 8));
-            n.extend(["trig", "ph1", "ph2", "pitch", "amp", "amp2", "det[0]", "det[1]"].map(String::from));
-            for i in 0..2 {
-                n.extend(["cents", "ratio", "n"].map(|f| format!("drift[{i}].{f}")));
-            }
-        }
-        Source::Tom(_) => n.extend(["y1", "y2", "det", "quiet"].map(String::from)),
-        Source::Cym => {
-            n.extend(each("ph", 6));
-            n.extend(each("det", 6));
-            n.extend(each("env", 8));
-            n.extend(each("mode", 8));
-            for i in 0..5 {
-                n.extend(["low", "band"].map(|f| format!("svf[{i}].{f}")));
-            }
-        }
-        Source::Hat => {
-            n.extend(each("ph", 6));
-            n.extend(each("det", 6));
-            n.extend(["env", "hp.low", "hp.band", "mode"].map(String::from));
-        }
+fn indexed(name: &str, index: Option<usize>) -> String {
+    index.map_or(name.to_string(), |i| format!("{name}[{i}]"))
+}
+
+impl Fields for Names {
+    fn put(&mut self, name: &'static str, index: Option<usize>, _: u32, float: bool) {
+        let mut path = self.path.clone();
+        path.push(indexed(name, index));
+        self.words.push((path.join("."), float));
     }
-    n
+
+    fn enter(&mut self, name: &'static str, index: Option<usize>) {
+        self.path.push(indexed(name, index));
+    }
+
+    fn leave(&mut self) {
+        self.path.pop();
+    }
 }
 
 /// The parts of the frame that a source reads.

@@ -2,8 +2,8 @@
 
 use crate::fields::concerned;
 use crate::oracle::analog as rust;
-use crate::port::{Source, DUALS};
 use crate::rng::Rng;
+use crate::state::{Source, DUALS};
 
 #[derive(Clone, Copy, PartialEq)]
 pub enum Style {
@@ -29,7 +29,8 @@ const METAL: [f32; 6] = [205.3, 304.4, 369.6, 522.7, 540.0, 800.0];
 pub struct Frames {
     pub frame: Vec<u8>,
     pub dac: [i32; 16],
-    clean: Vec<u8>,
+    /// The frame before what goes wrong with it.
+    pub clean: Vec<u8>,
     style: Style,
     voices: Vec<Voice>,
     left: u32,
@@ -49,7 +50,7 @@ struct Voice {
     gap: u32,
 }
 
-fn put(f: &mut [u8], o: usize, w: u32) {
+pub fn put(f: &mut [u8], o: usize, w: u32) {
     f[o..o + 2].copy_from_slice(&(w as u16).to_be_bytes());
 }
 
@@ -58,7 +59,7 @@ fn switch(f: &mut [u8], n: usize, on: bool) {
 }
 
 /// An envelope record that moves at a rate within the given exponents.
-fn record(rng: &mut Rng, f: &mut [u8], o: usize, first: u32, start: i32, target: i32, mode: u8, exps: (i32, i32)) {
+pub fn record(rng: &mut Rng, f: &mut [u8], o: usize, first: u32, start: i32, target: i32, mode: u8, exps: (i32, i32)) {
     put(f, o, first);
     f[o + 2] = start as u8;
     f[o + 3] = target as u8;
@@ -278,7 +279,8 @@ impl Frames {
         Frames { frame: clean.clone(), dac: [0; 16], clean, style, voices, left: 0 }
     }
 
-    pub fn step(&mut self, rng: &mut Rng) {
+    /// Moves the exciters on; whether a block begins.
+    pub fn due(&mut self, rng: &mut Rng) -> bool {
         for v in self.voices.iter_mut() {
             if let Source::Tom(i) = v.source {
                 self.dac[8 + i] = v.exciter(rng, self.style);
@@ -286,13 +288,18 @@ impl Frames {
         }
         if self.left > 0 {
             self.left -= 1;
-            return;
+            return false;
         }
         self.left = match self.style {
             Style::Firmware | Style::Damaged => 31,
             Style::Fast => rng.pick(&[0, 0, 0, 1, 5]),
             Style::Noise | Style::States => rng.pick(&[0, 0, 3, 40]),
         };
+        true
+    }
+
+    /// The block's frame.
+    pub fn write(&mut self, rng: &mut Rng) {
         for v in self.voices.iter_mut() {
             v.block(rng, &mut self.clean);
         }

@@ -1,8 +1,9 @@
 //! Random states: every field within its usual range, at its edges, or any bit pattern.
 
 use crate::oracle::analog::Record;
-use crate::port::{Cym, Drift, DualOsc, Env, Hat, Source, State, Svf, Tom, Wobble};
 use crate::rng::Rng;
+use crate::rytm::{Cym, Drift, DualOsc, Env, Hat, Svf, Tom, Wobble};
+use crate::state::{Source, State};
 
 const SPECIAL: [u32; 22] = [
     0, 0x8000_0000, 1, 0x8000_0001, 0x007f_ffff, 0x0080_0000, 0x807f_ffff, 0x3f80_0000, 0xbf80_0000, 0x3f7f_ffff, 0x3f00_0000, 0x7f7f_ffff, 0xff7f_ffff,
@@ -10,14 +11,14 @@ const SPECIAL: [u32; 22] = [
 ];
 
 /// How far a state strays: of eight fields, so many are wild.
-struct Wild<'a> {
-    rng: &'a mut Rng,
-    of8: u32,
+pub struct Wild<'a> {
+    pub rng: &'a mut Rng,
+    pub of8: u32,
 }
 
 impl Wild<'_> {
     /// The usual value, or an edge of it, or any float.
-    fn float(&mut self, usual: f32, edges: &[f32]) -> f32 {
+    pub fn float(&mut self, usual: f32, edges: &[f32]) -> f32 {
         if self.rng.below(8) >= self.of8 {
             return usual;
         }
@@ -34,7 +35,7 @@ impl Wild<'_> {
     }
 
     /// The level of an envelope that follows the record: anywhere, or a step from its target but for a rounding.
-    fn level(&mut self, record: &[u8]) -> f32 {
+    pub fn level(&mut self, record: &[u8]) -> f32 {
         let whole = self.rng.range(-128, 127) as f32;
         let r = Record::parse(record);
         let rounding = (2.0 * self.rng.unit() - 1.0) * r.step * f32::EPSILON;
@@ -55,7 +56,7 @@ impl Wild<'_> {
         self.float(usual, &[0.0, 1.0, 1e-7, -1e-7, -1.0, 2.0, 1000.0])
     }
 
-    fn filter(&mut self) -> f32 {
+    pub fn filter(&mut self) -> f32 {
         let usual = 2.0 * self.rng.unit() - 1.0;
         self.float(usual, &[0.0, 1.0, 1e-40, 1e30, 3e38])
     }

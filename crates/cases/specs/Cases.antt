@@ -10,6 +10,9 @@ use Rattle.float.specs.Floats.{to24Of}
 use Rattle.frame.specs.Frame.{routedOff}
 use Rattle.envelope.specs.declared.Record.{Record}
 use Rattle.envelope.specs.Record.{recordOf, stepOf, tickLevel}
+use Rattle.wobble.specs.Wobble.{xorshiftOf}
+use Rattle.vco.specs.Vco.{fromBits}
+use Rattle.vco.specs.declared.Wave.the-variants.{Off, Sine}
 
 -- a record's fields
 abbrev fields : Bool → Float → Float → Float → Record
@@ -35,6 +38,9 @@ pub record Cases : Type 0 where
   pub tick2 : tickLevel (fin false 0 (pos 0)) (fin false 127 (pos 0)) (fin false 1 (pos 7)) ≡ fin false 127 (pos 0)
   -- 10 to 0 by 4 gives 6
   pub tick3 : tickLevel (fin false 5 (pos 1)) (fin false 0 (pos 0)) (fin false 1 (pos 2)) ≡ fin false 3 (pos 1)
+  -- code 101 is sine, 010 off
+  pub code1 : fromBits true false true ≡ Sine
+  pub code2 : fromBits false true false ≡ Off
   -- 0.5 gives word 4194303, 2 gives 8388607, not a number 0
   pub word1 : to24Of (fin false 1 (negsuc 0)) ≡ pos 4194303
   pub word2 : to24Of (fin false 1 (pos 1)) ≡ pos 8388607
@@ -42,3 +48,5 @@ pub record Cases : Type 0 where
   -- route byte 08 takes off voice 0 alone, 01 voice 3 alone
   pub route1 : (f : List ℕ) → getD f 166 0 ≡ 0x08 → off f ≡ true ∷ false ∷ false ∷ false ∷ false ∷ false ∷ false ∷ false ∷ []
   pub route2 : (f : List ℕ) → getD f 166 0 ≡ 0x01 → off f ≡ false ∷ false ∷ false ∷ true ∷ false ∷ false ∷ false ∷ false ∷ []
+  -- random state 1 is followed by 270369
+  pub random1 : xorshiftOf 1 ≡ 270369

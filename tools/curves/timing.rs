@@ -1,22 +1,26 @@
-//! Times a function beside another on the same arguments.
+//! Times a function beside another on the same arguments: in a slow sweep, as levels and phases move, and in no order, where
+//! branches are guessed wrong.
 
 use std::hint::black_box;
 use std::time::Instant;
 
 const ARGUMENTS: usize = 4096;
-const BATCHES: usize = 200;
+const BATCHES: usize = 400;
 
-/// Arguments spread over an interval, in no order.
-fn arguments(lo: f32, hi: f32) -> Vec<f32> {
+fn sweep(lo: f32, hi: f32) -> Vec<f32> {
+    (0..ARGUMENTS).map(|i| lo + (hi - lo) * (i as f32 + 0.5) / ARGUMENTS as f32).collect()
+}
+
+/// The same arguments in no order.
+fn shuffled(mut xs: Vec<f32>) -> Vec<f32> {
     let mut s = 0x2545_f491u32;
-    (0..ARGUMENTS)
-        .map(|_| {
-            s ^= s << 13;
-            s ^= s >> 17;
-            s ^= s << 5;
-            lo + (hi - lo) * (s as f32 / u32::MAX as f32)
-        })
-        .collect()
+    for i in (1..xs.len()).rev() {
+        s ^= s << 13;
+        s ^= s >> 17;
+        s ^= s << 5;
+        xs.swap(i, s as usize % (i + 1));
+    }
+    xs
 }
 
 /// Nanoseconds a call, the best of the batches.
@@ -31,9 +35,12 @@ fn best(xs: &[f32], f: impl Fn(f32) -> f32) -> f64 {
     (0..BATCHES).map(|_| batch()).fold(f64::INFINITY, f64::min)
 }
 
-/// One line: both times and their ratio.
+/// One line: both times and their ratio, for each order.
 pub fn compare(name: &str, (lo, hi): (f32, f32), port: unsafe extern "C" fn(f32) -> f32, rust: fn(f32) -> f32) {
-    let xs = arguments(lo, hi);
-    let (p, r) = (best(&xs, |x| unsafe { port(x) }), best(&xs, rust));
-    println!("{name}: {p:.1} ns, Rust's {r:.1} ns, ratio {:.2} (arguments from {lo} to {hi})", p / r);
+    let told = |xs: Vec<f32>| {
+        let (p, r) = (best(&xs, |x| unsafe { port(x) }), best(&xs, rust));
+        format!("{p:5.1} ns, Rust's {r:5.1} ns, ratio {:5.2}", p / r)
+    };
+    let (slow, any) = (told(sweep(lo, hi)), told(shuffled(sweep(lo, hi))));
+    println!("{name:6} sweep {slow}; in no order {any}; {lo} to {hi}");
 }

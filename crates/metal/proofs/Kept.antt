@@ -2,12 +2,10 @@
 use Prim.Native.Nat.{ℕ, _+_, _*_, _^_, _<_}
 use native.Mathlib.Omega.{arith}
 use native.Mathlib.Nat.{le-of-lt}
-use native.Mathlib.Decide.{ℕ-discrete}
-use mathlib.Core.Path.{_≡_, sym, subst}
+use mathlib.Core.Path.{_≡_, subst}
 use mathlib.Core.Bool.{Bool, true, false, _&&_, cond}
 use mathlib.Core.List.{List}
 use lib.ListN.{getD, set, length, length-set}
-use lib.Seq.{getD-set-same, getD-set-other}
 use lib.Dec.{eqb, le→leb}
 use lib.IntN.{pos}
 use lib.Ieee.{Float, nan, binary32, neg, le, lt, eq, fits, ofBits, ofInt, round}
@@ -20,7 +18,7 @@ use Rattle.float.proofs.Laws.{fract-in}
 use Rattle.frame.specs.Frame.{fieldAt}
 use Rattle.frame.proofs.Sizes.{Bytes, field-in}
 use Rattle.lists.specs.Turns.{turnsOf}
-use Rattle.lists.proofs.Sweep.{turns-keep}
+use Rattle.lists.proofs.Sweep.{turns-keep, set-keeps}
 use Rattle.vco.specs.Vco.{advanced}
 use Rattle.wobble.specs.declared.Wobble.{Wobble}
 use Rattle.wobble.specs.Wobble.{phaseOf, detuneOf}
@@ -38,12 +36,8 @@ pub record Six (P : Float → Type 0) (xs : List Float) : Type 0 where
 pub six-set : {P : Float → Type 0} (xs : List Float) (k : ℕ) (x : Float) → Six P xs → P x → Six P (set xs k x)
 six-set {P} xs k x h p = record {
   long = rw (length-set xs k x) (h .long);
-  each = λ i l. by i l (ℕ-discrete k i);
+  each = λ i l. set-keeps P nan xs k x (λ j m. h .each j (subst (λ (n : ℕ). j < n) (h .long) m)) p i (rw (h .long) l);
 }
-  where
-    by : (i : ℕ) → i < 6 → Dec (k ≡ i) → P (getD (set xs k x) i nan)
-    by i l (yes e) = subst P (sym (subst (λ (j : ℕ). getD (set xs k x) j nan ≡ x) e (getD-set-same xs k x nan (rw (h .long) (rw e l))))) p
-    by i l (no n) = subst P (sym (getD-set-other xs k i x nan (λ e. n (sym e)))) (h .each i l)
 
 -- ---- draws
 pub record DrawsIn (P : Float → Type 0) (d : Draws) : Type 0 where

@@ -1,3 +1,4 @@
 -- Laws of `tom`.
 pub mod Zero
 pub mod Inside
+pub mod Kept

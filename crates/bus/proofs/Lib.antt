@@ -1,0 +1,2 @@
+-- Laws of `bus`.
+pub mod Kept

@@ -1,0 +1,2 @@
+-- Laws of `chain`.
+pub mod Kept

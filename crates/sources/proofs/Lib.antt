@@ -1,0 +1,2 @@
+-- Laws of `sources`.
+pub mod Kept

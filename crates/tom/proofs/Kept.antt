@@ -1,0 +1,32 @@
+-- One sample of a tom keeps the random source. Its two states are not spoken of. Assumes nothing.
+use Prim.Native.Nat.{ℕ}
+use mathlib.Core.Bool.{Bool, true, false, _||_, cond}
+use mathlib.Core.List.{List}
+use lib.IntN.{ℤ}
+use lib.Dec.{ltb}
+use lib.Ieee.{Float, le, lt}
+use Rattle.float.specs.Consts.{k10, k65535}
+use Rattle.frame.specs.Frame.{wordF}
+use Rattle.frame.specs.Offsets.{tomSpec}
+use Rattle.wobble.specs.declared.Wobble.{Wobble}
+use Rattle.wobble.proofs.Kept.{WobbleIn, detune-in}
+use Rattle.tom.specs.declared.Tom.{Tom}
+use Rattle.tom.specs.declared.TomOut.{TomOut}
+use Rattle.tom.specs.declared.Excited.{Excited}
+use Rattle.tom.specs.Tom.{isZero, exciteOf, hzOf, sampleOf}
+
+either : {A : Type 0} (P : A → Type 0) (b : Bool) (x y : A) → P x → P y → P (cond b x y)
+either P true x y h k = h
+either P false x y h k = k
+
+excite-in : (det : Float) (quiet : ℕ) (d : ℤ) (w : Wobble) → WobbleIn w → WobbleIn (exciteOf det quiet d w .w)
+unfolding exciteOf
+excite-in det quiet d w h =
+    either (λ (e : Excited). WobbleIn (e .w)) (isZero d) _ _ h (either (λ (e : Excited). WobbleIn (e .w)) (ltb quiet 64) _ _ h (detune-in w h .0))
+
+pub tom-in : (f : List ℕ) (t : ℕ) (d : ℤ) (o : Tom) (w : Wobble) → WobbleIn w → WobbleIn (sampleOf f t d o w .w)
+unfolding sampleOf
+tom-in f t d o w h =
+    let e = exciteOf (o .det) (o .quiet) d w in
+    let k = excite-in (o .det) (o .quiet) d w h in
+    either (λ (x : TomOut). WobbleIn (x .w)) (le k65535 (wordF f (tomSpec t .tune)) || lt (hzOf (wordF f (tomSpec t .tune)) (e .det)) k10) _ _ k k

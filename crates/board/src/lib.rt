@@ -1,4 +1,4 @@
-// The voice board: a fresh one, and one step with its refusals.
+// The voice board, and one step with its refusals.
 use chain::Chain;
 use comp::Comp;
 use comp::Mix;
@@ -12,7 +12,7 @@ ghost use mathlib.Core.Path.{_≡_};
 ghost use mathlib.Core.Bool.{Bool};
 ghost use Prim.Native.Nat.{_≤_, _<_};
 ghost use lib.ListN.{length};
-ghost use Rattle.board.specs.Board.{freshOf, inRange, allInRange, inputOk, inputsOk, wordsOf, takenOf, refusedOf, steppedOf, answerOf};
+ghost use Rattle.board.specs.Board.{inRange, allInRange, inputOk, inputsOk, wordsOf, takenOf, refusedOf, steppedOf, answerOf};
 
 #[repr(C)]
 pub struct Analog {
@@ -45,28 +45,6 @@ pub struct Answer {
     pub rx: [i32; 12],
     pub mix: Mix,
     pub board: Analog,
-}
-
-// A fresh board.
-pub fn fresh(seed: u32, ideal: bool) -> Analog
-    ensures { λ r. ⌜ r ≡ freshOf seed ideal ⌝ }
-{
-    let d = DualOsc::new();
-    let hat = Hat::new();
-    let t = Tom::new();
-    let cym = Cym::new();
-    let c = Chain::new();
-    let comp = Comp::new();
-    let wobble = Wobble::new(seed, ideal);
-    Analog {
-        duals: [d; 3],
-        hat,
-        toms: [t; 3],
-        cym,
-        chains: [c; 8],
-        comp,
-        wobble,
-    }
 }
 
 // ---- the refusals

@@ -4,7 +4,12 @@ use board::Inputs;
 use board::Outcome;
 use comp::Mix;
 ghost use mathlib.Core.Path.{_≡_};
+ghost use mathlib.Core.List.{List};
+ghost use Prim.Native.Nat.{ℕ};
 ghost use Rattle.board.specs.Board.{freshOf, numberOf, answerOf};
+ghost use Rattle.board.specs.Calls.{Call};
+ghost use Rattle.promise.specs.Levels.{Which};
+ghost use Rattle.promise.specs.Promise.{Promise, Stretched};
 ghost use Rattle.board_c.specs.Calls.{inputsOf, numbered};
 
 // A step's answer, with the number of its refusal, 0 for none.
@@ -31,9 +36,9 @@ fn number(o: Outcome) -> u32
 
 #[no_mangle]
 pub extern "C" fn rytm_fresh(seed: u32, ideal: bool) -> Analog
-    ensures { λ r. ⌜ r ≡ freshOf seed ideal ⌝ }
+    ensures { λ r. ⌜ (r ≡ freshOf seed ideal) × ((calls : List Call) → Promise r calls) × ((w : Which) (n : ℕ) → Stretched r w n) ⌝ }
 {
-    board::fresh(seed, ideal)
+    promise::fresh(seed, ideal)
 }
 
 #[no_mangle]

@@ -1,7 +1,7 @@
 -- One sample of the cymbal, on any frame of bytes, keeps its phases from 0 to 1, its detunes bounded and its eight levels levels. Assumes nothing.
-use Prim.Native.Nat.{ℕ, _+_, _*_, _≤_, _<_}
+use Prim.Native.Nat.{ℕ, zero, suc, _+_, _*_, _≤_, _<_}
 use native.Mathlib.Omega.{arith}
-use mathlib.Core.Path.{_≡_, sym, subst, _∙_}
+use mathlib.Core.Path.{_≡_, refl, sym, ap, subst, _∙_}
 use mathlib.Core.Bool.{Bool, true, false, cond}
 use mathlib.Core.List.{List}
 use lib.ListN.{getD, length}
@@ -10,6 +10,8 @@ use Rattle.frame.proofs.Sizes.{Bytes, bytes-in}
 use Rattle.lists.specs.Turns.{eachOf}
 use Rattle.lists.proofs.Sweep.{each-length, each-at}
 use Rattle.envelope.specs.declared.Env.{Env}
+use Rattle.envelope.specs.Record.{modeOf}
+use Rattle.envelope.specs.Moves.{hitOf}
 use Rattle.envelope.specs.Levels.{Level}
 use Rattle.envelope.proofs.Settle.{hit-level}
 use Rattle.metal.specs.Metal.{hitDraws}
@@ -60,3 +62,37 @@ cym-in f B c w k m =
         → CymIn (cond b (record { cym = cym; w = v; y = k0 }) (soundOf f cym v) .cym) × WobbleIn (cond b (record { cym = cym; w = v; y = k0 }) (soundOf f cym v) .w)
     by cym v H U true = (H, U)
     by cym v H U false = (sound-in f B cym v H, same-w f cym v U)
+
+-- each envelope takes its move, and each mode is its record's, whether the cymbal sounds or not
+module _ (f : List ℕ) where
+  sounding : (c : Cym) (w : Wobble) (b : Bool) → (cond b (record { cym = c; w = w; y = k0 }) (soundOf f c w) .cym .env ≡ c .env) × (cond b (record { cym = c; w = w; y = k0 }) (soundOf f c w) .cym .mode ≡ c .mode)
+  unfolding soundOf
+  sounding c w true = (refl, refl)
+  sounding c w false = (refl, refl)
+
+  sampled : (c : Cym) (w : Wobble) → (sampleOf f c w .cym .env ≡ eachOf 8 (envAt f (c .mode)) noEnv (c .env)) × (sampleOf f c w .cym .mode ≡ modesAt f)
+  unfolding sampleOf
+  sampled c w =
+      let env = eachOf 8 (envAt f (c .mode)) noEnv (c .env) in
+      let d = hitDraws (anyHit (modesAt f) (c .mode)) (quietOf (c .env)) (c .ph) (c .det) w in
+      sounding (record { ph = d .ph; det = d .det; env = env; mode = modesAt f; svf = c .svf }) (d .w) (quietOf env)
+
+  mode-at : (r : ℕ) → r < 8 → getD (modesAt f) r 0 ≡ modeOf (recordAt f r)
+  unfolding modesAt
+  mode-at zero h = refl
+  mode-at (suc zero) h = refl
+  mode-at (suc (suc zero)) h = refl
+  mode-at (suc (suc (suc zero))) h = refl
+  mode-at (suc (suc (suc (suc zero)))) h = refl
+  mode-at (suc (suc (suc (suc (suc zero))))) h = refl
+  mode-at (suc (suc (suc (suc (suc (suc zero)))))) h = refl
+  mode-at (suc (suc (suc (suc (suc (suc (suc zero))))))) h = refl
+  mode-at (suc (suc (suc (suc (suc (suc (suc (suc r)))))))) h = absurd (omega arith)
+
+  pub cym-moves : (c : Cym) (w : Wobble) → length (c .env) ≡ 8 → (r : ℕ) → r < 8
+      → (getD (sampleOf f c w .cym .env) r noEnv ≡ hitOf (getD (c .mode) r 0) (recordAt f r) (getD (c .env) r noEnv)) × (getD (sampleOf f c w .cym .mode) r 0 ≡ modeOf (recordAt f r))
+  unfolding envAt
+  cym-moves c w e r h = (
+    ap (λ (l : List Env). getD l r noEnv) (sampled c w .0) ∙ each-at (envAt f (c .mode)) noEnv (c .env) 8 r h (omega arith),
+    ap (λ (l : List ℕ). getD l r 0) (sampled c w .1) ∙ mode-at r h,
+  )

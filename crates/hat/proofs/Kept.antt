@@ -1,5 +1,6 @@
 -- One sample of the hat, on any frame of bytes, keeps its phases from 0 to 1, its detunes bounded and its level a level. Its filter is not spoken of: at bright colours it can grow until it is no number. Assumes nothing.
 use Prim.Native.Nat.{ℕ}
+use mathlib.Core.Path.{_≡_, refl}
 use mathlib.Core.Bool.{Bool, true, false, not, _&&_, cond}
 use mathlib.Core.List.{List}
 use lib.Dec.{eqb}
@@ -46,3 +47,18 @@ hat-in f B h w k m =
         → HatIn (cond b (record { hat = hat; w = v; y = k0 }) (soundOf f hat v) .hat) × WobbleIn (cond b (record { hat = hat; w = v; y = k0 }) (soundOf f hat v) .w)
     by hat v H U true = (H, U)
     by hat v H U false = (sound-in f B hat v H, same-w f hat v U)
+
+-- the envelope takes its move, and the mode is the record's, whether the hat sounds or not
+module _ (f : List ℕ) where
+  sounding : (h : Hat) (w : Wobble) (b : Bool) → (cond b (record { hat = h; w = w; y = k0 }) (soundOf f h w) .hat .env ≡ h .env) × (cond b (record { hat = h; w = w; y = k0 }) (soundOf f h w) .hat .mode ≡ h .mode)
+  unfolding soundOf
+  sounding h w true = (refl, refl)
+  sounding h w false = (refl, refl)
+
+  pub hat-moves : (h : Hat) (w : Wobble) → (sampleOf f h w .hat .env ≡ hitOf (h .mode) (bytesAt f 488) (h .env)) × (sampleOf f h w .hat .mode ≡ modeOf (bytesAt f 488))
+  unfolding sampleOf
+  hat-moves h w =
+      let r = bytesAt f 488 in
+      let d = hitDraws (eqb (modeOf r) 15 && not (eqb (h .mode) 15)) (le (h .env .level) kM127p5) (h .ph) (h .det) w in
+      let env = hitOf (h .mode) r (h .env) in
+      sounding (record { ph = d .ph; det = d .det; env = env; mode = modeOf r; hp = h .hp }) (d .w) (le (env .level) kM127p5)

@@ -1,8 +1,9 @@
--- `board::fresh` meets its contract: each part is fresh. Assumes nothing.
+-- `fresh` meets its contract: each part is fresh, and so the promise holds of it. Assumes nothing.
 use Rattle.board.specs.Board.{freshOf}
+use Rattle.promise.proofs.Whole.{promised}
 use borrow.Author.Needs.{needs}
-use Rattle.board.proofs.fresh.Statement.{statement}
-use Rattle.board.proofs.fresh.Tie as tie
+use Rattle.promise.proofs.fresh.Statement.{statement}
+use Rattle.promise.proofs.fresh.Tie as tie
 
 new-requires : tie.Need-new-requires
 new-requires c κs = search needs
@@ -27,7 +28,9 @@ new-requires-7 c κs = search needs
 
 returns : tie.Need-returns
 unfolding freshOf
-returns c = rw (← c .before .before .before .before .before .before .new .ensures, ← c .before .before .before .before .before .new2 .ensures, ← c .before .before .before .before .new3 .ensures, ← c .before .before .before .new4 .ensures, ← c .before .before .new5 .ensures, ← c .before .new6 .ensures, ← c .new7 .ensures)
+returns c =
+    let s = c .before .before .before .before .before .before .before in
+    promised _ (s .args .seed) (s .args .ideal) (s .fits .seed .fits) (rw (← c .before .before .before .before .before .before .new .ensures, ← c .before .before .before .before .before .new2 .ensures, ← c .before .before .before .before .new3 .ensures, ← c .before .before .before .new4 .ensures, ← c .before .before .new5 .ensures, ← c .before .new6 .ensures, ← c .new7 .ensures))
 
 pub fresh-spec : {M : Type 1} → statement M
 fresh-spec =

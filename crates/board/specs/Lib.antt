@@ -1,3 +1,2 @@
--- The definitions that the contracts of `board` cite, and a list of calls.
+-- The definitions that the contracts of `board` cite.
 pub mod Board
-pub mod Calls

@@ -7,7 +7,7 @@ ghost use mathlib.Core.Path.{_≡_};
 ghost use mathlib.Core.List.{List};
 ghost use Prim.Native.Nat.{ℕ};
 ghost use Rattle.board.specs.Board.{freshOf, numberOf, answerOf};
-ghost use Rattle.board.specs.Calls.{Call};
+ghost use Rattle.promise.specs.Calls.{Call};
 ghost use Rattle.promise.specs.Levels.{Which};
 ghost use Rattle.promise.specs.Promise.{Promise, Stretched};
 ghost use Rattle.board_c.specs.Calls.{inputsOf, numbered};

@@ -27,7 +27,7 @@ use Rattle.chain.specs.Chain.{noChain}
 use Rattle.board.specs.declared.Analog.{Analog}
 use Rattle.board.specs.declared.Answer.{Answer}
 use Rattle.board.specs.Board.{takenOf}
-use Rattle.board.specs.Calls.{Call, answer, accepted, nextOf, reachedOf}
+use Rattle.promise.specs.Calls.{Call, answer, accepted, nextOf, reachedOf}
 use Rattle.promise.specs.Levels.{Which, pitch, amp, amp2, hat, cymbal, chainAmp, chainFilter, levelAt, recordAt, moveAt}
 use Rattle.promise.specs.Promise.{moveOf, ticked, Plain, Quiet, Steady, ticksIn, targetOf, Runs, frameOf, Carry, acceptsIn, Free, Loose}
 use Rattle.promise.proofs.Moves.{is-true, plain-ticks}

@@ -7,3 +7,4 @@ pub mod Again
 pub mod Occurs
 pub mod Words
 pub mod Whole
+pub mod Corollaries

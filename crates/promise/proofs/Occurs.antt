@@ -17,7 +17,7 @@ use Rattle.envelope.specs.Record.{modeOf, recordOf}
 use Rattle.envelope.specs.Moves.{ramps}
 use Rattle.board.specs.declared.Analog.{Analog}
 use Rattle.board.specs.Board.{inRange, allInRange, inputOk, inputsOk, refusalOf, steppedOf, answeredOf, answerOf}
-use Rattle.board.specs.Calls.{Given, Call, step, answer, accepted, nextOf, reachedOf}
+use Rattle.promise.specs.Calls.{Given, Call, step, answer, accepted, nextOf, reachedOf}
 use Rattle.promise.specs.Levels.{Which, pitch, amp, amp2, hat, cymbal, chainAmp, chainFilter, offsetAt, recordAt}
 use Rattle.promise.specs.Promise.{Steady, ticksIn, Runs, Carry, acceptsIn, Stretched}
 use Rattle.promise.proofs.Step.{Good, call-good}

@@ -10,7 +10,7 @@ use Rattle.envelope.specs.Levels.{ticks}
 use Rattle.envelope.proofs.Ranges.{record-in}
 use Rattle.envelope.proofs.Run.{ticks-stay}
 use Rattle.board.specs.declared.Analog.{Analog}
-use Rattle.board.specs.Calls.{Call, nextOf, reachedOf}
+use Rattle.promise.specs.Calls.{Call, nextOf, reachedOf}
 use Rattle.promise.specs.Levels.{Which, levelAt}
 use Rattle.promise.specs.Promise.{moveOf, Steady, ticksIn, targetOf}
 use Rattle.promise.proofs.Moves.{counted, rests, ranged}

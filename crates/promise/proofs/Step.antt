@@ -34,7 +34,7 @@ use Rattle.board.specs.declared.Inputs.{Inputs}
 use Rattle.board.specs.declared.Outcome.{Outcome}
 use Rattle.board.specs.declared.Outcome.the-variants.{Done, ShortFrame, ShortParameters, DacCount, DacRange, InputRange}
 use Rattle.board.specs.Board.{takenOf, steppedOf, refusedOf, refusalOf, answeredOf, answerOf}
-use Rattle.board.specs.Calls.{Call, step, answer, accepted, nextOf}
+use Rattle.promise.specs.Calls.{Call, step, answer, accepted, nextOf}
 use Rattle.promise.specs.Levels.{Which, pitch, amp, amp2, hat, cymbal, chainAmp, chainFilter, levelAt, recordAt, offsetAt, moveAt}
 use Rattle.promise.specs.Promise.{moveOf, follow, frameOf}
 use Rattle.promise.proofs.Moves.{Ranged}

@@ -6,7 +6,7 @@ use mathlib.Core.List.{List, _++_}
 use lib.Ieee.{Float}
 use Rattle.board.specs.declared.Analog.{Analog}
 use Rattle.board.specs.Board.{takenOf, freshOf}
-use Rattle.board.specs.Calls.{Call, nextOf, reachedOf}
+use Rattle.promise.specs.Calls.{Call, nextOf, reachedOf}
 use Rattle.promise.specs.Levels.{Which, levelAt, Osc, dual1, dual2, hatOsc, cymOsc, phaseAt}
 use Rattle.promise.specs.Promise.{moveOf, Toward, Steady, targetOf, Phase, Promise, Stretched}
 use Rattle.promise.proofs.Moves.{follow-toward}

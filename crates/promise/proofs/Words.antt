@@ -16,7 +16,7 @@ use Rattle.board.specs.declared.Inputs.{Inputs}
 use Rattle.board.specs.declared.Outcome.{Outcome}
 use Rattle.board.specs.declared.Outcome.the-variants.{Done, ShortFrame, ShortParameters, DacCount, DacRange, InputRange}
 use Rattle.board.specs.Board.{takenOf, wordsOf, steppedOf, refusedOf, refusalOf, answeredOf, answerOf}
-use Rattle.board.specs.Calls.{Call, step, answer}
+use Rattle.promise.specs.Calls.{Call, step, answer}
 
 words : (rx : List ℤ) (audio mix : Mix) → Words rx → Words (wordsOf rx audio mix)
 unfolding wordsOf

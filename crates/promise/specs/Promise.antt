@@ -14,7 +14,7 @@ use Rattle.envelope.specs.Moves.{Move, given, stood, settle, ramps}
 use Rattle.envelope.specs.Moves.{ticked as ticks}
 use Rattle.envelope.specs.Levels.{Level, Between}
 use Rattle.board.specs.declared.Analog.{Analog}
-use Rattle.board.specs.Calls.{Call, step, answer, accepted, nextOf, reachedOf}
+use Rattle.promise.specs.Calls.{Call, step, answer, accepted, nextOf, reachedOf}
 use Rattle.promise.specs.Levels.{Which, pitch, amp, amp2, hat, cymbal, chainAmp, chainFilter, levelAt, recordAt, moveAt, Osc, phaseAt}
 
 -- ---- what a call does to a level

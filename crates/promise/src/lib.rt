@@ -11,7 +11,7 @@ ghost use mathlib.Core.Path.{_≡_};
 ghost use mathlib.Core.List.{List};
 ghost use Prim.Native.Nat.{ℕ};
 ghost use Rattle.board.specs.Board.{freshOf};
-ghost use Rattle.board.specs.Calls.{Call};
+ghost use Rattle.promise.specs.Calls.{Call};
 ghost use Rattle.promise.specs.Levels.{Which};
 ghost use Rattle.promise.specs.Promise.{Promise, Stretched};
 

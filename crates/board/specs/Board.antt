@@ -25,7 +25,7 @@ use Rattle.board.specs.declared.Analog.{Analog}
 use Rattle.board.specs.declared.Inputs.{Inputs}
 use Rattle.board.specs.declared.Answer.{Answer}
 use Rattle.board.specs.declared.Outcome.{Outcome}
-use Rattle.board.specs.declared.Outcome.the-variants.{Done, ShortFrame, ShortParameters, DacCount, DacRange, InputRange}
+use Rattle.board.specs.declared.Outcome.the-variants.{Done, ShortFrame, ShortParameters, DacCount, DacRange, InputRange, BadOpening, WrongLength, NoBody}
 
 -- "A fresh board is made from a 32-bit seed and an ideal mark"
 unfoldable pub freshOf : ℕ → Bool → Analog
@@ -47,6 +47,9 @@ numberOf ShortParameters = 2
 numberOf DacCount = 3
 numberOf DacRange = 4
 numberOf InputRange = 5
+numberOf BadOpening = 6
+numberOf WrongLength = 7
+numberOf NoBody = 8
 
 -- a DAC word from -8388608 to 8388607
 unfoldable pub inRange : ℤ → Bool
@@ -105,6 +108,9 @@ answeredOf ShortParameters b f dac fx x = refusedOf b ShortParameters
 answeredOf DacCount b f dac fx x = refusedOf b DacCount
 answeredOf DacRange b f dac fx x = refusedOf b DacRange
 answeredOf InputRange b f dac fx x = refusedOf b InputRange
+answeredOf BadOpening b f dac fx x = refusedOf b BadOpening
+answeredOf WrongLength b f dac fx x = refusedOf b WrongLength
+answeredOf NoBody b f dac fx x = refusedOf b NoBody
 
 -- a step: what it answers to any arguments
 unfoldable pub answerOf : Analog → List ℕ → List ℤ → List ℕ → Inputs → Answer

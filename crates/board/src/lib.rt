@@ -12,7 +12,7 @@ ghost use mathlib.Core.Path.{_≡_};
 ghost use mathlib.Core.Bool.{Bool};
 ghost use Prim.Native.Nat.{_≤_, _<_};
 ghost use lib.ListN.{length};
-ghost use Rattle.board.specs.Board.{inRange, allInRange, inputOk, inputsOk, wordsOf, takenOf, refusedOf, steppedOf, answerOf};
+ghost use Rattle.board.specs.Board.{numberOf, inRange, allInRange, inputOk, inputsOk, wordsOf, takenOf, refusedOf, steppedOf, answerOf};
 
 #[repr(C)]
 pub struct Analog {
@@ -31,6 +31,7 @@ pub struct Inputs {
     pub ext: Mix,
 }
 
+// How a call ends. The last three are of a recording alone; a step never answers them.
 pub enum Outcome {
     Done,
     ShortFrame,
@@ -38,6 +39,26 @@ pub enum Outcome {
     DacCount,
     DacRange,
     InputRange,
+    BadOpening,
+    WrongLength,
+    NoBody,
+}
+
+// The outcome's number in the table of refusals.
+pub fn number(o: Outcome) -> u32
+    ensures { λ r. ⌜ r ≡ numberOf o ⌝ }
+{
+    match o {
+        Outcome::Done => 0,
+        Outcome::ShortFrame => 1,
+        Outcome::ShortParameters => 2,
+        Outcome::DacCount => 3,
+        Outcome::DacRange => 4,
+        Outcome::InputRange => 5,
+        Outcome::BadOpening => 6,
+        Outcome::WrongLength => 7,
+        Outcome::NoBody => 8,
+    }
 }
 
 pub struct Answer {

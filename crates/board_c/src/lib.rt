@@ -1,12 +1,11 @@
 // The board under C names: a fresh board, and a step. The caller tests nothing beforehand.
 use board::Analog;
 use board::Inputs;
-use board::Outcome;
 use comp::Mix;
 ghost use mathlib.Core.Path.{_≡_};
 ghost use mathlib.Core.List.{List};
 ghost use Prim.Native.Nat.{ℕ};
-ghost use Rattle.board.specs.Board.{freshOf, numberOf, answerOf};
+ghost use Rattle.board.specs.Board.{freshOf, answerOf};
 ghost use Rattle.promise.specs.Calls.{Call};
 ghost use Rattle.promise.specs.Levels.{Which};
 ghost use Rattle.promise.specs.Promise.{Promise, Stretched};
@@ -19,19 +18,6 @@ pub struct Answer {
     pub rx: [i32; 12],
     pub mix: Mix,
     pub board: Analog,
-}
-
-fn number(o: Outcome) -> u32
-    ensures { λ r. ⌜ r ≡ numberOf o ⌝ }
-{
-    match o {
-        Outcome::Done => 0,
-        Outcome::ShortFrame => 1,
-        Outcome::ShortParameters => 2,
-        Outcome::DacCount => 3,
-        Outcome::DacRange => 4,
-        Outcome::InputRange => 5,
-    }
 }
 
 #[no_mangle]
@@ -67,7 +53,7 @@ pub extern "C" fn rytm_step(
     let mix = a.mix;
     let next = a.board;
     Answer {
-        number: number(outcome),
+        number: board::number(outcome),
         rx,
         mix,
         board: next,

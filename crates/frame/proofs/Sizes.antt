@@ -1,8 +1,9 @@
--- Where every element of a frame is a byte: its words, fields and records stay within their sizes. Assumes nothing.
+-- Where every element of a frame is a byte: its words, fields and records stay within their sizes, and its parts are of bytes. Assumes nothing.
 use Prim.Native.Nat.{ℕ, zero, suc, _+_, _^_, _≤_, _<_}
 use native.Mathlib.Omega.{arith}
-use mathlib.Core.List.{List, []}
-use lib.ListN.{getD}
+use mathlib.Core.List.{List, [], _∷_}
+use lib.ListN.{getD, take, drop}
+use lib.Seq.{getD-drop}
 use Rattle.frame.specs.Frame.{wordAt, fieldAt, bytesAt}
 
 abbrev pub Bytes : List ℕ → Type 0
@@ -29,3 +30,16 @@ bytes-in f h o (suc (suc (suc (suc (suc (suc (suc (suc i)))))))) = none i
     none : (i : ℕ) → getD [] i 0 < 256
     none zero = omega arith
     none (suc i) = omega arith
+
+-- and so is each element of a part of it
+pub part-in : (f : List ℕ) → Bytes f → (o n : ℕ) → Bytes (take n (drop o f))
+part-in f h o n = taken n (drop o f) dropped
+  where
+    dropped : Bytes (drop o f)
+    dropped i = rw (getD-drop o f i 0) (h (o + i))
+
+    taken : (n : ℕ) (l : List ℕ) → Bytes l → Bytes (take n l)
+    taken zero l k i = omega arith
+    taken (suc n) [] k i = k i
+    taken (suc n) (x ∷ l) k zero = k 0
+    taken (suc n) (x ∷ l) k (suc i) = taken n l (λ j. k (suc j)) i

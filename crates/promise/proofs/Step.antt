@@ -32,7 +32,7 @@ use Rattle.board.specs.declared.Analog.{Analog}
 use Rattle.board.specs.declared.Answer.{Answer}
 use Rattle.board.specs.declared.Inputs.{Inputs}
 use Rattle.board.specs.declared.Outcome.{Outcome}
-use Rattle.board.specs.declared.Outcome.the-variants.{Done, ShortFrame, ShortParameters, DacCount, DacRange, InputRange}
+use Rattle.board.specs.declared.Outcome.the-variants.{Done, ShortFrame, ShortParameters, DacCount, DacRange, InputRange, BadOpening, WrongLength, NoBody}
 use Rattle.board.specs.Board.{takenOf, steppedOf, refusedOf, refusalOf, answeredOf, answerOf}
 use Rattle.promise.specs.Calls.{Call, step, answer, accepted, nextOf}
 use Rattle.promise.specs.Levels.{Which, pitch, amp, amp2, hat, cymbal, chainAmp, chainFilter, levelAt, recordAt, offsetAt, moveAt}
@@ -119,6 +119,9 @@ module _ (b : Analog) (f : List ℕ) (dac : List ℤ) (fx : List ℕ) (x : Input
   way-of DacCount = left refl refl
   way-of DacRange = left refl refl
   way-of InputRange = left refl refl
+  way-of BadOpening = left refl refl
+  way-of WrongLength = left refl refl
+  way-of NoBody = left refl refl
 
   good-of : Bytes f → (o : Outcome) → Good (answeredOf o b f dac fx x .board)
   unfolding answeredOf refusedOf
@@ -128,6 +131,9 @@ module _ (b : Analog) (f : List ℕ) (dac : List ℤ) (fx : List ℕ) (x : Input
   good-of B DacCount = g
   good-of B DacRange = g
   good-of B InputRange = g
+  good-of B BadOpening = g
+  good-of B WrongLength = g
+  good-of B NoBody = g
 
 pub way : (b : Analog) (k : Call) → Good b → Way b (frameOf k) (answer b k)
 unfolding answerOf

@@ -14,7 +14,7 @@ use Rattle.comp.specs.Comp.{processOf}
 use Rattle.board.specs.declared.Analog.{Analog}
 use Rattle.board.specs.declared.Inputs.{Inputs}
 use Rattle.board.specs.declared.Outcome.{Outcome}
-use Rattle.board.specs.declared.Outcome.the-variants.{Done, ShortFrame, ShortParameters, DacCount, DacRange, InputRange}
+use Rattle.board.specs.declared.Outcome.the-variants.{Done, ShortFrame, ShortParameters, DacCount, DacRange, InputRange, BadOpening, WrongLength, NoBody}
 use Rattle.board.specs.Board.{takenOf, wordsOf, steppedOf, refusedOf, refusalOf, answeredOf, answerOf}
 use Rattle.promise.specs.Calls.{Call, step, answer}
 
@@ -39,6 +39,9 @@ module _ (b : Analog) (f : List ℕ) (dac : List ℤ) (fx : List ℕ) (x : Input
   answered DacCount = words-zero 12
   answered DacRange = words-zero 12
   answered InputRange = words-zero 12
+  answered BadOpening = words-zero 12
+  answered WrongLength = words-zero 12
+  answered NoBody = words-zero 12
 
 pub words-in : (b : Analog) (k : Call) → Words (answer b k .rx)
 unfolding answerOf

@@ -1,0 +1,3 @@
+-- The laws.
+pub mod Opening
+pub mod Replay

@@ -55,6 +55,7 @@ numberOf NoBody = 8
 unfoldable pub inRange : ℤ → Bool
 inRange z = leZ (negsuc 8388607) z && leZ z (pos 8388607)
 
+-- every word of the list is
 unfoldable pub allInRange : List ℤ → Bool
 allInRange [] = true
 allInRange (z ∷ zs) = inRange z && allInRange zs
@@ -63,6 +64,7 @@ allInRange (z ∷ zs) = inRange z && allInRange zs
 unfoldable pub inputOk : Float → Bool
 inputOk x = le (neg k1) x && le x k1
 
+-- each of the four is
 unfoldable pub inputsOk : Inputs → Bool
 inputsOk x = inputOk (x .audio .l) && inputOk (x .audio .r) && inputOk (x .ext .l) && inputOk (x .ext .r)
 
@@ -101,6 +103,7 @@ steppedOf b f dac fx x =
       board = record { duals = s .duals; hat = s .hat; toms = s .toms; cym = s .cym; chains = v .chains; comp = o .comp; wobble = s .w };
     }
 
+-- a step where nothing is refused, and else the refusal
 unfoldable pub answeredOf : Outcome → Analog → List ℕ → List ℤ → List ℕ → Inputs → Answer
 answeredOf Done b f dac fx x = steppedOf b f dac fx x
 answeredOf ShortFrame b f dac fx x = refusedOf b ShortFrame

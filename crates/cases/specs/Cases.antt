@@ -22,6 +22,7 @@ fields cmd start target step = record { «start_cmd» = cmd; start = start; targ
 abbrev off : List ℕ → List Bool
 off f = routedOff f 0 ∷ routedOff f 1 ∷ routedOff f 2 ∷ routedOff f 3 ∷ routedOff f 4 ∷ routedOff f 5 ∷ routedOff f 6 ∷ routedOff f 7 ∷ []
 
+-- the rows marked P of "Cases on each edge"
 pub record Cases : Type 0 where
   -- 40 00 00 7F 00 00 00 00: command, 0, 127, step 128
   pub record1 : recordOf (0x40 ∷ 0 ∷ 0 ∷ 0x7f ∷ 0 ∷ 0 ∷ 0 ∷ 0 ∷ []) ≡ fields true (fin false 0 (pos 0)) (fin false 127 (pos 0)) (fin false 1 (pos 7))

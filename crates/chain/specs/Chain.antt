@@ -60,6 +60,7 @@ cutoffOf frq depth level =
     let cv = frq ⊕ depth ⊗ (maxOf level k0 ⊘ k127) in
     clampOf (k440 ⊗ exp2Of ((cv ⊘ k512 ⊕ k64 ⊖ k60) ⊘ k12)) k10 k22000
 
+-- the resonance, from 0 to 1
 unfoldable pub resOf : Float → Float
 resOf word = clampOf (word ⊘ k32512) k0 k1
 
@@ -97,6 +98,7 @@ pickOf Pk s lp1 x k res = x ⊕ s .bp ⊗ k ⊗ k2 ⊗ res
 unfoldable pub finiteOr : Svf → Float → Float → Filtered
 finiteOr s lp1 y = cond (finite y) (record { low = s .low; band = s .band; lp1 = lp1; y = y }) (record { low = k0; band = k0; lp1 = lp1; y = k0 })
 
+-- the overdriven sample through the filter of the voice's type
 unfoldable pub filterOf : Chain → Reads → Float → Float → Filtered
 filterOf c i fc x =
     let res = resOf (i .res) in

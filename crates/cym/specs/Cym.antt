@@ -80,6 +80,7 @@ pathOf m env p s =
     let y = cond (c .high && not body) (q .high) (q .svf .band) in
     cond (le lv kM127p5) s (record { svf = set (s .svf) p (q .svf); out = s .out ⊕ y ⊗ maxOf (lv ⊘ k127) k0 })
 
+-- the five paths in turn, summed
 unfoldable pub pathsOf : List Svf → Metal → List Env → Paths
 pathsOf svf m env = turnsOf 5 (pathOf m env) (record { svf = svf; out = k0 })
 

@@ -114,6 +114,7 @@ plainOf i ph1 ph2 f1 f2 =
     let o1 = cond (i .wave1) (k0p7 ⊗ o ⊕ k0p3 ⊗ (k2 ⊗ ph1 ⊖ k1)) o in
     record { ph1 = advanced ph1 f1 k48000; ph2 = advanced ph2 f2 k48000; y = o1 ⊗ wordLevel (i .level1) ⊕ o2 ⊗ wordLevel (i .level2) }
 
+-- "The core of 001 runs only with FM or ring on"
 unfoldable pub soundOf : Setting → Float → Float → Float → Float → Float → Sound
 soundOf i ph1 ph2 f1 f2 amp2 = cond (i .fm || i .ring) (pairedOf i ph1 ph2 f1 f2 amp2) (plainOf i ph1 ph2 f1 f2)
 

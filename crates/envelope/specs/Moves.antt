@@ -20,6 +20,7 @@ pub record Move : Type 0 where
   pub held : Bool
   pub parked : Bool
 
+-- a move from its parts
 abbrev pub moveBy : List ℕ → Bool → Bool → Bool → Move
 moveBy r restarted held parked = record { bytes = r; restarted = restarted; held = held; parked = parked }
 
@@ -48,6 +49,7 @@ alike (suc n) a b = alike n a b && eqb (getD a n 0) (getD b n 0)
 unfoldable pub dualMove : List ℕ → List ℕ → Move
 dualMove last r = moveBy r (not (alike 8 r last) && recordOf r .«start_cmd») false false
 
+-- `Env` of a dual voice, which keeps the record that it saw last
 unfoldable pub dualOf : List ℕ → List ℕ → Env → Env
 dualOf last r e = record { level = settle (dualMove last r) (e .level) }
 
@@ -55,6 +57,7 @@ dualOf last r e = record { level = settle (dualMove last r) (e .level) }
 unfoldable pub hitMove : ℕ → List ℕ → Move
 hitMove mode r = moveBy r (eqb (modeOf r) 15 && not (eqb mode 15)) false (not (recordOf r .«start_cmd»))
 
+-- `Env` of hat or cymbal, which keep the mode that they saw last
 unfoldable pub hitOf : ℕ → List ℕ → Env → Env
 hitOf mode r e = record { level = settle (hitMove mode r) (e .level) }
 
@@ -63,6 +66,7 @@ hitOf mode r e = record { level = settle (hitMove mode r) (e .level) }
 unfoldable pub keyOf : List ℕ → Key
 keyOf r = record { start = getD r 2 0; target = getD r 3 0; rate = rateOf r }
 
+-- no change of these
 unfoldable pub sameKey : Key → Key → Bool
 sameKey a b = eqb (a .start) (b .start) && eqb (a .target) (b .target) && eqb (a .rate) (b .rate)
 
@@ -82,6 +86,7 @@ holdOf mode rate d was =
     (cond (eqb mode 0) (eqb rate 0 || was)
     (cond (ramps mode) false was))
 
+-- restarted or not, then held or not by where the level stands then
 unfoldable pub segMove : Bool → List ℕ → SegEnv → Move
 segMove amp r e =
     let restarted = segStarts amp r e in

@@ -58,6 +58,7 @@ pub data Osc : Type 0 where
   dual1 dual2 : (d : ℕ) → d < 3 → Osc
   hatOsc cymOsc : (k : ℕ) → k < 6 → Osc
 
+-- where it stands on the board
 abbrev pub phaseAt : Analog → Osc → Float
 phaseAt b (dual1 d h) = getD (b .duals) d noDual .ph1
 phaseAt b (dual2 d h) = getD (b .duals) d noDual .ph2

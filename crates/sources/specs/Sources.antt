@@ -40,6 +40,7 @@ dualTurn f d s =
     let o = Dual.sampleOf f d (getD (s .duals) d noDual) (s .w) in
     record { duals = set (s .duals) d (o .dual); hat = s .hat; toms = s .toms; cym = s .cym; w = o .w; src = set (s .src) (dualSpec d .voice) (o .y) }
 
+-- BD, SD and RS in turn
 unfoldable pub dualsOf : List ℕ → Sources → Sources
 dualsOf f s = turnsOf 3 (dualTurn f) s
 
@@ -49,6 +50,7 @@ tomTurn f dac t s =
     let o = Tom.sampleOf f t (getD dac (tomSpec t .dac) (pos 0)) (getD (s .toms) t noTom) (s .w) in
     record { duals = s .duals; hat = s .hat; toms = set (s .toms) t (o .tom); cym = s .cym; w = o .w; src = set (s .src) (tomSpec t .voice) (o .y) }
 
+-- the three toms in turn
 unfoldable pub tomsOf : List ℕ → List ℤ → Sources → Sources
 tomsOf f dac s = turnsOf 3 (tomTurn f dac) s
 

@@ -20,14 +20,18 @@ use Rattle.tom.specs.declared.Tom.{Tom}
 use Rattle.tom.specs.declared.TomOut.{TomOut}
 use Rattle.tom.specs.Tom as TomSpec
 
+-- a dual voice: its sample, and under 664 bytes the state as before and 0
 unfoldable pub dualAnswer : List ℕ → ℕ → DualOsc → Wobble → DualOut
 dualAnswer f d e w = cond (ltb (length f) 664) (record { dual = e; w = w; y = k0 }) (Dual.sampleOf f d e w)
 
+-- the hat alike
 unfoldable pub hatAnswer : List ℕ → Hat → Wobble → HatOut
 hatAnswer f h w = cond (ltb (length f) 664) (record { hat = h; w = w; y = k0 }) (HatSpec.sampleOf f h w)
 
+-- the cymbal alike
 unfoldable pub cymAnswer : List ℕ → Cym → Wobble → CymOut
 cymAnswer f c w = cond (ltb (length f) 664) (record { cym = c; w = w; y = k0 }) (CymSpec.sampleOf f c w)
 
+-- a tom alike
 unfoldable pub tomAnswer : List ℕ → ℕ → ℤ → Tom → Wobble → TomOut
 tomAnswer f t d o w = cond (ltb (length f) 664) (record { tom = o; w = w; y = k0 }) (TomSpec.sampleOf f t d o w)

@@ -23,6 +23,7 @@ use Rattle.tom.specs.declared.Excited.{Excited}
 unfoldable pub tomNew : Tom
 tomNew = record { y1 = k0; y2 = k0; det = k1; quiet = 64 }
 
+-- a DAC word of zero
 abbrev pub isZero : ℤ → Bool
 isZero (pos n) = eqb n 0
 isZero (negsuc n) = false

@@ -37,6 +37,7 @@ detuneOf w cents = let d = uniOf w in record { w = d .w; x = exp2Of (d .x ⊗ ce
 unfoldable pub phaseOf : Wobble → Drawn
 phaseOf w = let d = uniOf w in record { w = d .w; x = cond (lt k0 (w .depth)) (k0p5 ⊗ (d .x ⊕ k1)) k0 }
 
+-- `Drift::default`
 unfoldable pub driftNew : Drift
 driftNew = record { cents = k0; ratio = k1; n = 0 }
 

@@ -2,7 +2,7 @@
 ghost use mathlib.Core.Path.{_≡_};
 ghost use Prim.Native.Nat.{_+_, _*_, _/_, _<_, _≤_};
 ghost use lib.ListN.{getD};
-ghost use Rattle.power.specs.Power.{roots, fractionOf, powerOf, productOf, exp2Of, expOf, pow10Of};
+ghost use Rattle.power.specs.Power.{roots, scaledOf, fractionOf, powerOf, productOf, exp2Of, expOf, pow10Of};
 ghost use Rattle.power.specs.Near.{Exp2Near, ExpNear, Pow10Near};
 
 // log2 e and log2 10 in Q32
@@ -59,16 +59,24 @@ fn step(b: u64, y: u64, k: u64) -> u64
     b + y * k / 4294967296
 }
 
-// 2^h in Q32, for an h of Q32 below 1
-pub fn fraction(h: u64) -> u64
+// 2^h in Q62, for an h of Q32 below 1
+fn scaled(h: u64) -> u64
     requires { ⌜ h < 4294967296 ⌝ }
-    ensures { λ r. ⌜ (r ≡ fractionOf h) × (4294967296 ≤ r) × (r ≤ 8589934592) ⌝ }
+    ensures { λ r. ⌜ (r ≡ scaledOf h) × (4611686018427387904 ≤ r) × (r ≤ 9223372036854775808) ⌝ }
 {
     let k = h % 134217728 * 32; // Q32
     let y2 = step(1007582, 7275, k);
     let y1 = step(93032639, y2, k);
     let y = step(4294967296, y1, k); // Q32
-    y * root(h / 134217728) / 1073741824
+    y * root(h / 134217728)
+}
+
+// the same in Q32
+pub fn fraction(h: u64) -> u64
+    requires { ⌜ h < 4294967296 ⌝ }
+    ensures { λ r. ⌜ (r ≡ fractionOf h) × (4294967296 ≤ r) × (r ≤ 8589934592) ⌝ }
+{
+    scaled(h) / 1073741824
 }
 
 // 2^(w - 128), for a w of Q32
@@ -76,9 +84,8 @@ pub fn power(w: u64) -> f32
     requires { ⌜ (8589934592 ≤ w) × (w < 1095216660480) ⌝ }
     ensures { λ r. ⌜ r ≡ powerOf w ⌝ }
 {
-    let y = fraction(w % 4294967296); // Q32
-    let s = f32::from_bits((1056964608 + (y + 256) / 512) as u32);
-    s * fixed::two_to(w / 4294967296 - 1)
+    let m = (scaled(w % 4294967296) + 274877906944) / 549755813888; // Q23
+    f32::from_bits(((w / 4294967296 - 2) * 8388608 + m) as u32)
 }
 
 // v * k of Q32, both of Q32, in two parts so that no product passes 64 bits

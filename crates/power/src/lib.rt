@@ -2,6 +2,7 @@
 ghost use mathlib.Core.Path.{_≡_};
 ghost use Prim.Native.Nat.{_+_, _*_, _/_, _<_, _≤_};
 ghost use lib.ListN.{getD};
+ghost use Rattle.fixed.specs.Fixed.{shifted};
 ghost use Rattle.power.specs.Power.{roots, scaledOf, fractionOf, powerOf, productOf, exp2Of, expOf, pow10Of};
 ghost use Rattle.power.specs.Near.{Exp2Near, ExpNear, Pow10Near};
 
@@ -96,20 +97,32 @@ pub fn product(v: u64, k: u64) -> u64
     (v / 65536 * k + v % 65536 * k / 65536) / 65536
 }
 
+// 128 ± u of Q32
+fn side(negative: bool, u: u64) -> u64
+    requires { ⌜ u ≤ 541165879296 ⌝ }
+    ensures { λ r. ⌜ r ≡ shifted negative u 4294967296 ⌝ }
+{
+    if negative {
+        549755813888 - u
+    } else {
+        549755813888 + u
+    }
+}
+
 pub fn exp2(t: f32) -> f32
     ensures is { λ r. ⌜ r ≡ exp2Of t ⌝ }
     ensures near { λ r. ⌜ Exp2Near t r ⌝ }
 {
+    if (t >= -126.0) & (t < 127.0) {
+        return power(fixed::spot(t));
+    }
     if t != t {
         return t;
     }
     if t < -126.0 {
         return 0.0;
     }
-    if t >= 127.0 {
-        return 1.0 / 0.0;
-    }
-    power(fixed::spot(t))
+    1.0 / 0.0
 }
 
 pub fn exp(t: f32) -> f32
@@ -126,18 +139,15 @@ pub fn pow10(t: f32) -> f32
     ensures is { λ r. ⌜ r ≡ pow10Of t ⌝ }
     ensures near { λ r. ⌜ Pow10Near t r ⌝ }
 {
+    if (t >= -37.0) & (t <= 37.0) {
+        let u = product(fixed::size(t), LOG2_TEN); // Q32
+        return power(side(t < 0.0, u));
+    }
     if t != t {
         return t;
     }
     if t < -37.0 {
         return 0.0;
     }
-    if t > 37.0 {
-        return 1.0 / 0.0;
-    }
-    let u = product(fixed::size(t), LOG2_TEN); // Q32
-    if t < 0.0 {
-        return power(549755813888 - u);
-    }
-    power(549755813888 + u)
+    1.0 / 0.0
 }

@@ -5,11 +5,11 @@ use native.Mathlib.Nat.{le-trans, le-of-eq, le-of-lt, mul-one, mul-pos, mul-le-m
 use native.Mathlib.Omega.{arith}
 use lib.Dec.{lit<, lit≤}
 use Rattle.series.proofs.Algebra.{ac}
-use Rattle.sine.specs.Series.{alternating, nested}
+use Rattle.sine.specs.Series.{alternating}
 use Rattle.sine.specs.Exact.{odds, sincNum, sincDen, oddNum, oddDen}
 use Rattle.sine.specs.Sine.{quarter31, sincOf, sineFix}
-use Rattle.sine.proofs.Nested.{tail, nested-near, slack}
-use Rattle.sine.proofs.Pairs.{coefs, pairs-near, sinc-le}
+use Rattle.sine.proofs.Nested.{nested, tail, nested-near, slack}
+use Rattle.sine.proofs.Pairs.{terms, pairs-near, sinc-le}
 
 abbrev Q : ℕ
 Q = 2147483648
@@ -78,23 +78,23 @@ module _ (f d z : ℕ) (dp : 0 < d) (low : z * d ≤ f * Q + 2 * d) (high : f * 
       shuffle : (d : ℕ) → 2 * d * (2 * d) ≡ 4 * (d * d)
       shuffle d = omega arith
 
-  series : (nested P coefs v * 6227020800 * (d * d) ^ 7 ≤ P * 1 * sincNum f d * (d * d) + slack 5 coefs * 6227020800 * (d * d) ^ 7) × (P * 1 * sincNum f d * (d * d) ≤ nested P coefs v * 6227020800 * (d * d) ^ 7 + slack 5 coefs * 6227020800 * (d * d) ^ 7)
-  series = nested-near P 6227020800 4 5 (f * f) (d * d) v (lit< tt) (lit< tt) v-low v-high v-le wide 1 coefs odds tt
+  series : (nested P terms v * 6227020800 * (d * d) ^ 7 ≤ P * 1 * sincNum f d * (d * d) + slack 5 terms * 6227020800 * (d * d) ^ 7) × (P * 1 * sincNum f d * (d * d) ≤ nested P terms v * 6227020800 * (d * d) ^ 7 + slack 5 terms * 6227020800 * (d * d) ^ 7)
+  series = nested-near P 6227020800 4 5 (f * f) (d * d) v (lit< tt) (lit< tt) v-low v-high v-le wide 1 terms odds tt
 
-  slack-is : slack 5 coefs ≡ 49
+  slack-is : slack 5 terms ≡ 49
   unfolding slack
   slack-is = refl
 
-  horner-near : (nested P coefs v * sincDen d ≤ P * sincNum f d + 49 * sincDen d) × (P * sincNum f d ≤ nested P coefs v * sincDen d + 49 * sincDen d)
+  horner-near : (nested P terms v * sincDen d ≤ P * sincNum f d + 49 * sincDen d) × (P * sincNum f d ≤ nested P terms v * sincDen d + 49 * sincDen d)
   horner-near =
-      let y = nested P coefs v in
-      (rw slack-is at (cancel-low y 6227020800 ((d * d) ^ 6) (d * d) P (sincNum f d) (slack 5 coefs) ((d * d) ^ 7) dd (pow-suc (d * d) 6) (series .0)), rw slack-is at (cancel-high y 6227020800 ((d * d) ^ 6) (d * d) P (sincNum f d) (slack 5 coefs) ((d * d) ^ 7) dd (pow-suc (d * d) 6) (series .1)))
+      let y = nested P terms v in
+      (rw slack-is at (cancel-low y 6227020800 ((d * d) ^ 6) (d * d) P (sincNum f d) (slack 5 terms) ((d * d) ^ 7) dd (pow-suc (d * d) 6) (series .0)), rw slack-is at (cancel-high y 6227020800 ((d * d) ^ 6) (d * d) P (sincNum f d) (slack 5 terms) ((d * d) ^ 7) dd (pow-suc (d * d) 6) (series .1)))
 
   -- the series in Q32 is off by 292 units
   pub sinc-near : (sincOf (z * z / 4294967296) * sincDen d ≤ 4294967296 * sincNum f d + 292 * sincDen d) × (4294967296 * sincNum f d ≤ sincOf (z * z / 4294967296) * sincDen d + 292 * sincDen d)
   sinc-near =
       let p = pairs-near v (div-le-of-le-mul P (le-trans (mul-le-mul zc zc) (lit≤ tt))) in
-      (widen-low (sincOf v) (nested P coefs v) (sincDen d) (P * sincNum f d) (p .0) (horner-near .0), widen-high (sincOf v) (nested P coefs v) (sincDen d) (P * sincNum f d) (p .1) (horner-near .1))
+      (widen-low (sincOf v) (nested P terms v) (sincDen d) (P * sincNum f d) (p .0) (horner-near .0), widen-high (sincOf v) (nested P terms v) (sincDen d) (P * sincNum f d) (p .1) (horner-near .1))
 
   -- the sine in Q63 is off by 295 units of Q31
   pub sin-method : (sineFix z * oddDen d ≤ Q * P * oddNum f d + 295 * P * oddDen d) × (Q * P * oddNum f d ≤ sineFix z * oddDen d + 295 * P * oddDen d)

@@ -4,6 +4,7 @@ use native.Mathlib.Nat.{le-trans, le-of-lt, lt-of-lt-of-le, mul-le-mul, mul-le-m
 use native.Mathlib.Omega.{arith}
 use lib.Dec.{lit<, lit≤}
 use Rattle.series.proofs.Algebra.{ac}
+use Rattle.sine.specs.Series.{paired}
 use Rattle.sine.specs.Exact.{sincNum, sincDen, oddNum, oddDen}
 use Rattle.sine.specs.Sine.{sincOf, sineFix, quarter31, ratioOf}
 use Rattle.sine.proofs.Pairs.{sinc-le}
@@ -19,7 +20,7 @@ P = 4294967296
 -- ---- sizes
 -- sin z / z is above 1 / 2 within a quarter turn
 pub sinc-low : (z : ℕ) → z ≤ quarter31 → Q ≤ sincOf (z * z / P)
-unfolding sincOf
+unfolding sincOf paired
 sinc-low z h =
     let v = z * z / P in
     let l : v ≤ 2649351758 = div-le-of-le-mul P (le-trans (mul-le-mul h h) (lit≤ tt)) in

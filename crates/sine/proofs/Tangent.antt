@@ -11,6 +11,7 @@ use lib.Ieee.Fits.{and-l, and-r}
 use lib.Ieee.{Float, nan, inf, fin, up, down}
 use Rattle.series.specs.Near.{Within}
 use Rattle.series.proofs.Algebra.{ac, loosen}
+use Rattle.sine.specs.Series.{paired}
 use Rattle.sine.specs.Exact.{unit, quarter, oddNum, oddDen, sineNum, sincNum, sincDen}
 use Rattle.sine.specs.Sine.{quarter31, sincOf, sineFix, ratioOf}
 use Rattle.sine.proofs.Method.{odd-le}
@@ -125,7 +126,7 @@ near-one : ℕ → Bool
 near-one x = leb 2147475456 (cosFix x) && leb (cosFix x) 2147491840
 
 all-near : T (every near-one 128)
-unfolding every near-one sineFix sincOf
+unfolding every near-one sineFix sincOf paired
 all-near = tt
 
 one-of : (x : ℕ) → x ≤ 128 → (2147475456 ≤ cosFix x) × (cosFix x ≤ 2147491840)

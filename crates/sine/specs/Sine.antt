@@ -1,12 +1,14 @@
 -- sin, cos and tan of an `f32`: how they are computed, and how near they are. Assumes nothing.
 use mathlib.Core.Path.{_≡_}
 use mathlib.Core.Bool.{Bool, true, false, cond, not, _&&_}
+use mathlib.Core.List.{List, [], _∷_}
 use Prim.Native.Nat.{ℕ, zero, suc, _+_, _-_, _*_, _/_, _%_, _^_}
 use lib.IntN.{pos, negsuc}
 use lib.Dec.{T}
 use lib.Ieee.{Float, nan, inf, fin, binary32, up, down, neg, lt, le, toBits}
 use Rattle.series.specs.Near.{Within, Beside}
 use Rattle.fixed.specs.Fixed.{sizeOf, packOf}
+use Rattle.sine.specs.Series.{paired}
 use Rattle.sine.specs.Exact.{turns, within, lower, sineNum, sineDen}
 
 -- ---- how they are computed
@@ -28,15 +30,13 @@ tiny = fin false 1 (negsuc 23)
 abbrev pub upTo : Float → Float → Bool
 upTo b x = le (fin false 0 (pos 0)) x && le x b
 
--- b - c v in Q32
-abbrev pub less : ℕ → ℕ → ℕ → ℕ
-less b c v = b - c * v / 2 ^ 32
+-- 4 ^ j / (2 j + 1)! in Q32, to the nearest; the last is less, for the next term, which is left out
+abbrev pub coefs : List ℕ
+coefs = 4294967296 ∷ 2863311531 ∷ 572662306 ∷ 54539267 ∷ 3029959 ∷ 108525 ∷ []
 
--- sin z / z in Q32, for v = z² / 4 in Q32: its terms, 4 ^ j / (2 j + 1)!, in pairs; the sixth is less, for the seventh that is left out
+-- sin z / z in Q32, for v = z² / 4 in Q32
 unfoldable pub sincOf : ℕ → ℕ
-sincOf v =
-    let w = v * v / 2 ^ 32 in
-    less (2 ^ 32) 2863311531 v + (less 572662306 54539267 v + less 3029959 108525 v * w / 2 ^ 32) * w / 2 ^ 32
+sincOf v = paired (2 ^ 32) coefs v (v * v / 2 ^ 32)
 
 -- a quarter turn in Q31, cut
 abbrev pub quarter31 : ℕ

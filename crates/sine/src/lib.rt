@@ -6,14 +6,14 @@ ghost use lib.Dec.{T};
 ghost use lib.Ieee.{lt};
 ghost use Rattle.fixed.specs.Fixed.{sizeOf};
 ghost use Rattle.sine.specs.Exact.{within};
-ghost use Rattle.sine.specs.Sine.{eight, little, upTo, less, sincOf, sineFix, waveOf, ratioOf, sinOf, cosOf, tanOf, Sine, Tangent, quarter31};
+ghost use Rattle.sine.specs.Sine.{eight, little, upTo, sincOf, sineFix, waveOf, ratioOf, sinOf, cosOf, tanOf, Sine, Tangent, quarter31};
 use fixed::pack;
 use fixed::size;
 
 // b - c v in Q32.
 fn step(b: u64, c: u64, v: u64) -> u64
     requires { ⌜ (c ≤ b) × (b ≤ 4294967296) × (v < 4294967296) ⌝ }
-    ensures { λ r. ⌜ (r ≡ less b c v) × (r ≤ b) ⌝ }
+    ensures { λ r. ⌜ (r ≡ b - c * v / 4294967296) × (r ≤ b) ⌝ }
 {
     b - c * v / 4294967296
 }

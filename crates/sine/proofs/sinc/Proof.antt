@@ -1,11 +1,12 @@
 -- `sine::sinc` meets its contract: each product is of numbers below 2 ^ 32, and the sum is at most 1. Assumes nothing.
 use mathlib.Core.Path.{_≡_}
-use Prim.Native.Nat.{ℕ, _+_, _*_, _/_, _≤_}
+use Prim.Native.Nat.{ℕ, _+_, _-_, _*_, _/_, _≤_}
 use native.Mathlib.Nat.{le-of-lt, le-trans, mul-le-mul}
 use native.Mathlib.Omega.{arith}
 use borrow.Author.Needs.{needs}
-use Rattle.sine.specs.Sine.{less, sincOf}
-use Rattle.sine.proofs.Pairs.{square-le, sinc-le}
+use Rattle.sine.specs.Series.{paired}
+use Rattle.sine.specs.Sine.{sincOf}
+use Rattle.sine.proofs.Pairs.{k₁, k₂, k₃, k₄, k₅, square-le, sinc-le}
 use Rattle.sine.proofs.sinc.Statement.{statement}
 use Rattle.sine.proofs.sinc.Tie as tie
 
@@ -48,8 +49,8 @@ mul-result-2 c = omega (arith, outer c)
 add-result-2 : tie.Need-add-result-2
 add-result-2 c = omega (arith, outer c)
 
-joined : (a b c v : ℕ) → a ≡ less 4294967296 2863311531 v → b ≡ less 572662306 54539267 v → c ≡ less 3029959 108525 v → a + (b + c * (v * v / 4294967296) / 4294967296) * (v * v / 4294967296) / 4294967296 ≡ sincOf v
-unfolding sincOf
+joined : (a b c v : ℕ) → a ≡ 4294967296 - k₁ * v / 4294967296 → b ≡ k₂ - k₃ * v / 4294967296 → c ≡ k₄ - k₅ * v / 4294967296 → a + (b + c * (v * v / 4294967296) / 4294967296) * (v * v / 4294967296) / 4294967296 ≡ sincOf v
+unfolding sincOf paired
 joined a b c v e₁ e₂ e₃ = rw (e₁, e₂, e₃)
 
 is : (c : tie.After-step3) → c .before .before .step .result + (c .before .step2 .result + c .step3 .result * square c / 4294967296) * square c / 4294967296 ≡ sincOf (argument c)

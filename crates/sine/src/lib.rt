@@ -79,11 +79,11 @@ pub fn sin(x: f32) -> f32
     ensures is { λ r. ⌜ r ≡ sinOf x ⌝ }
     ensures near { λ r. ⌜ Sine 0 x r ⌝ }
 {
-    if (x >= 0.0) & (x <= 8.0) {
-        if x < 0.0009765625 {
-            return x;
-        }
+    if (x >= 0.0009765625) & (x <= 8.0) {
         return wave(angle(x), 0);
+    }
+    if (x >= 0.0) & (x < 0.0009765625) {
+        return x;
     }
     0.0 / 0.0
 }

@@ -28,7 +28,7 @@ cast-result : tie.Need-cast-result
 cast-result c = search needs
 
 float-from-bits-result : tie.Need-float-from-bits-result
-float-from-bits-result c = bits-no-nan ((c .before .args .w / 4294967296 - 2) * 8388608 + (c .scaled .result + 274877906944) / 549755813888) (omega arith)
+float-from-bits-result c = bits-no-nan _ (omega arith)
 
 once : (s : ℕ) → (s + 274877906944) / 549755813888 ≡ (s / 1073741824 + 256) / 512
 once s = omega arith

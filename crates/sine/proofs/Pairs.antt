@@ -1,5 +1,5 @@
 -- The series by pairs of terms against Horner's rule on seven: b - (b' - y v) v is b - b' v + y v², but for what the cuts lose. Assumes nothing.
-use mathlib.Core.Path.{_≡_, ap, _∙_}
+use mathlib.Core.Path.{_≡_}
 use mathlib.Core.List.{List, [], _∷_}
 use Prim.Native.Nat.{ℕ, _+_, _-_, _*_, _/_, _≤_, _<_}
 use native.Mathlib.Nat.{le-refl, le-trans, le-of-eq, le-of-lt, mul-comm, mul-le-mul, mul-le-mul-left, mul-le-mul-right, div-mul-le-self, div-le-of-le-mul, lt-div-mul-add, le-of-mul-le-mul-right, sub-add-cancel, sub-le}
@@ -14,6 +14,7 @@ use Rattle.sine.proofs.Nested.{nested, head, tail, nested-le}
 abbrev P : ℕ
 P = 4294967296
 
+-- the coefficients after the first
 abbrev pub k₁ : ℕ
 k₁ = head (tail coefs)
 

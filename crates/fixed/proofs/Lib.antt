@@ -3,5 +3,4 @@ pub mod Fields
 pub mod Shifts
 pub mod Placed
 pub mod Packs
-pub mod Powers
 pub mod Order

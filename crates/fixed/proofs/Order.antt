@@ -19,6 +19,11 @@ on e = subst T (sym e) tt
 pub off : {b : Bool} → b ≡ false → T (not b)
 off e = subst (λ (z : Bool). T (not z)) (sym e) tt
 
+-- where two do not hold together and the first does
+pub other-off : (a b : Bool) → T (not (a && b)) → T a → T (not b)
+other-off true b h k = h
+other-off false b h k = absurd k
+
 -- ± x ≤ ± y; true is the minus sign
 abbrev pub Under : Bool → ℕ → Bool → ℕ → Type 0
 Under false x false y = x ≤ y

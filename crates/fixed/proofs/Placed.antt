@@ -2,18 +2,21 @@
 use mathlib.Core.Path.{_≡_, refl, sym, ap, _∙_, subst}
 use Prim.Native.Nat.{ℕ, zero, suc, _+_, _-_, _*_, _/_, _%_, _^_, _≤_, _<_}
 use mathlib.Core.Bool.{Bool, true, false, cond, not}
-use native.Mathlib.Nat.{le-trans, lt-of-lt-of-le, mul-one, div-one, mul-le-mul-right, mul-lt-mul-of-pos-right, lt-of-mul-lt-mul-right, eq-of-mul-eq-mul-right, lt-of-not-le, add-comm, lt-irrefl, mul-le-mul-left, le-of-suc-le-suc}
+use mathlib.Core.Logic.{_⊎_, inl, inr}
+use native.Mathlib.Nat.{le-trans, lt-of-lt-of-le, mul-one, div-one, mul-le-mul-right, mul-lt-mul-of-pos-right, lt-of-mul-lt-mul-right, eq-of-mul-eq-mul-right, lt-of-not-le, add-comm, lt-irrefl, mul-le-mul-left, le-of-suc-le-suc, eq-zero-or-pos, eq-or-lt-of-le}
 use native.Mathlib.Omega.{arith}
 use lib.IntN.{ℤ}
-use lib.Dec.{T, leb, ltb, eqb, ltb→lt, nltb→le, lit<}
+use lib.Dec.{T, leb, ltb, eqb, ltb→lt, nltb→le, le→leb, lit<}
+use lib.Arith.{lt→nleb}
 use lib.Pow.{pow-pos, pow-add, pow-mono}
 use lib.Ieee.{Float, nan, inf, fin, binary32, up, down, ofBits, toBits, ofFields, fits, isNan}
-use lib.Ieee.Bits.{ofBits-toBits}
+use lib.Ieee.Bits.{ofBits-toBits, toBits-lt, is-true, is-false}
 use lib.Ieee.Exact.{HasValue}
 use lib.Ieee.Nearest.{div-same}
 use Rattle.series.proofs.Algebra.{ac, sub-mul}
 use Rattle.fixed.specs.Fixed.{placeAt, placeOf, sizeAt, sizeOf, small, shifted}
 use Rattle.fixed.proofs.Fields.{down-pos, zero-field, some-field}
+use Rattle.fixed.proofs.Shifts.{size-tiny, near-zero, near-pos, near-neg}
 
 -- (128 c ± a) / c over another denominator
 cross : (s : Bool) (a c D K P : ℕ) → a * P * K ≡ D * c → shifted s a c * P * K ≡ shifted s D (P * K) * c
@@ -145,6 +148,50 @@ module _ (t : Float) (h : T (fits binary32 t)) (i : T (small t)) where
   -- a normal t
   pub told : (toBits binary32 t % 2147483648 / 8388608 ≡ 0 → ⊥) → Told t (leb 2147483648 (toBits binary32 t)) (toBits binary32 t % 2147483648 / 8388608) (toBits binary32 t % 8388608)
   told z = let b = toBits binary32 t in some-case (b % 2147483648 / 8388608) (leb 2147483648 b) (b % 8388608) (omega arith) same z
+
+  pub told-from : 94 ≤ toBits binary32 t % 2147483648 / 8388608 → Told t (leb 2147483648 (toBits binary32 t)) (toBits binary32 t % 2147483648 / 8388608) (toBits binary32 t % 8388608)
+  told-from l = told (λ z. omega arith)
+
+  -- a t below 2 ^ -32: its size, and its place from 0 on and below 0
+  by-field : {A : Type 0} → (toBits binary32 t % 2147483648 / 8388608 ≡ 0 → A) → ((toBits binary32 t % 2147483648 / 8388608 ≡ 0 → ⊥) → A) → A
+  by-field {A} f g = go (eq-zero-or-pos (toBits binary32 t % 2147483648 / 8388608))
+    where
+      go : (toBits binary32 t % 2147483648 / 8388608 ≡ 0) ⊎ (0 < toBits binary32 t % 2147483648 / 8388608) → A
+      go (inl z) = f z
+      go (inr p) = g (λ z. omega arith)
+
+  pub tiny-size : toBits binary32 t % 2147483648 / 8388608 < 94 → 0 ≡ sizeOf t
+  tiny-size l =
+      let b = toBits binary32 t in
+      by-field
+      (λ z. size-tiny 1 (b % 8388608) (lit< tt) (omega arith) ∙ zero-size z)
+      (λ z. size-tiny (b % 2147483648 / 8388608) (b % 8388608 + 8388608) l (omega arith) ∙ told z .size)
+
+  pub tiny-above : toBits binary32 t % 2147483648 / 8388608 < 94 → toBits binary32 t ≤ 2147483648 → 549755813888 ≡ placeOf t
+  tiny-above l u = go (eq-or-lt-of-le u)
+    where
+      go : (toBits binary32 t ≡ 2147483648) ⊎ (toBits binary32 t < 2147483648) → 549755813888 ≡ placeOf t
+      go (inl e) =
+          let b = toBits binary32 t in
+          let z : b % 2147483648 / 8388608 ≡ 0 = omega arith in
+          let d : b % 8388608 ≡ 0 = omega arith in
+          let s : leb 2147483648 b ≡ true = is-true (leb 2147483648 b) (le→leb 2147483648 b (omega arith)) in
+          near-zero 1 (lit< tt) ∙ rw (s, d) at (zero-place z)
+      go (inr h) =
+          let b = toBits binary32 t in
+          let s : leb 2147483648 b ≡ false = is-false (leb 2147483648 b) (lt→nleb 2147483648 b h) in
+          by-field
+          (λ z. near-pos 1 (b % 8388608) (lit< tt) (omega arith) ∙ rw s at (zero-place z))
+          (λ z. near-pos (b % 2147483648 / 8388608) (b % 8388608 + 8388608) l (omega arith) ∙ rw s at (told z .place))
+
+  pub tiny-below : toBits binary32 t % 2147483648 / 8388608 < 94 → 2147483648 < toBits binary32 t → 549755813887 ≡ placeOf t
+  tiny-below l u =
+      let b = toBits binary32 t in
+      let w : b < 4294967296 = toBits-lt binary32 t h in
+      let s : leb 2147483648 b ≡ true = is-true (leb 2147483648 b) (le→leb 2147483648 b (omega arith)) in
+      by-field
+      (λ z. near-neg 1 (b % 8388608) (lit< tt) (omega arith) (omega arith) ∙ rw s at (zero-place z))
+      (λ z. near-neg (b % 2147483648 / 8388608) (b % 8388608 + 8388608) l (omega arith) (omega arith) ∙ rw s at (told z .place))
 
 pub no-nan : (t : Float) → T (small t) → T (not (isNan t))
 unfolding small isNan

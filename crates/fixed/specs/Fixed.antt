@@ -51,7 +51,3 @@ unfoldable pub packOf : ℕ → ℕ → Float
 packOf q k =
     let z = leadingZeros 64 q in
     ofBits binary32 ((189 - z - k) * 2 ^ 23 + (q * 2 ^ z / 2 ^ 39 + 1) / 2)
-
--- 2 ^ (e - 127), for an exponent's field e
-unfoldable pub twoTo : ℕ → Float
-twoTo e = ofBits binary32 (e * 2 ^ 23)

@@ -156,13 +156,13 @@ ten-middle : (t : Float) → T (le tenLow t) → T (le t tenHigh) → pow10Of t 
 unfolding pow10Of
 ten-middle t h k = rw (same-number t (le-left t tenHigh k), is-false (lt t tenLow) (le-not-lt tenLow t h), is-false (lt tenHigh t) (le-not-lt t tenHigh k))
 
-pub ten-below : (t : Float) → T (le tenLow t) → T (le t tenHigh) → T (lt t zeroF) → pow10Of t ≡ powerOf (549755813888 - productOf (sizeOf t) log2Ten)
-unfolding fallOf
-ten-below t h k l = ten-middle t h k ∙ rw (is-true (lt t zeroF) l)
-
-pub ten-above : (t : Float) → T (le tenLow t) → T (le t tenHigh) → T (not (lt t zeroF)) → pow10Of t ≡ powerOf (549755813888 + productOf (sizeOf t) log2Ten)
-unfolding riseOf
-ten-above t h k l = ten-middle t h k ∙ rw (is-false (lt t zeroF) l)
+pub ten-is : (t : Float) → T (le tenLow t) → T (le t tenHigh) → pow10Of t ≡ powerOf (shifted (lt t zeroF) (productOf (sizeOf t) log2Ten) 4294967296)
+unfolding fallOf riseOf
+ten-is t h k = ten-middle t h k ∙ go (lt t zeroF)
+  where
+    go : (b : Bool) → cond b (fallOf log2Ten t) (riseOf log2Ten t) ≡ powerOf (shifted b (productOf (sizeOf t) log2Ten) 4294967296)
+    go true = refl
+    go false = refl
 
 pub pow10-near : (t : Float) → Pow10Near t (pow10Of t)
 pow10-near t = record {

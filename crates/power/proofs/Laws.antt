@@ -1,29 +1,30 @@
 -- What callers of the curves use: a range of the argument gives a range of the result, by its ends alone; and the ranges that the board needs. Assumes nothing.
 use mathlib.Core.Bool.{Bool, true, false, not, true≢false, _&&_}
-use Prim.Native.Nat.{ℕ, _+_, _-_, _/_, _%_, _^_}
+use Prim.Native.Nat.{ℕ, _+_, _-_, _*_, _/_, _%_, _^_}
 use native.Mathlib.Omega.{arith}
 use lib.IntN.{pos, negsuc}
 use lib.Dec.{T, T-not, not-T}
-use lib.Ieee.{Float, nan, inf, fin, binary32, ofBits, mul, lt, le, eq, ne, fits, isNan}
-use lib.Ieee.Fits.{and-l, and-r, mul-fits}
+use lib.Ieee.{Float, nan, inf, fin, binary32, ofBits, lt, le, eq, ne, fits, isNan}
+use lib.Ieee.Bits.{ofBits-fits}
+use lib.Ieee.Fits.{and-l, and-r}
 use lib.Ieee.Positive.{num, den}
 use Rattle.series.specs.Horner.{horner}
 use Rattle.series.specs.Near.{Within}
-use Rattle.fixed.specs.Fixed.{signOf, placeOf, sizeOf, twoTo}
+use Rattle.fixed.specs.Fixed.{signOf, placeOf, sizeOf}
 use Rattle.fixed.proofs.Fields.{cond-fits}
 use Rattle.fixed.proofs.Order.{le-make, not-lt, not-le, le-left, lt-not-le}
 use Rattle.line.proofs.Mono.{Good, le-trans-good}
 use Rattle.line.proofs.Range.{In, ends, inside, between, good, good-of, in-of}
 use Rattle.power.specs.Exact.{tenNum, tenDen}
 use Rattle.power.specs.Near.{Pow10Near}
-use Rattle.power.specs.Power.{fractionOf, significandOf, powerOf, zeroF, exp2Low, exp2High, expLow, tenLow, tenHigh, log2E, log2Ten, productOf, fallOf, riseOf, exp2Of, expOf, pow10Of}
+use Rattle.power.specs.Power.{fractionOf, powerOf, zeroF, exp2Low, exp2High, expLow, tenLow, tenHigh, log2E, log2Ten, productOf, fallOf, riseOf, exp2Of, expOf, pow10Of}
 use Rattle.power.proofs.Curves.{pow10-near}
 use Rattle.power.proofs.Order.{exp2-mono, exp-mono}
 
 -- ---- the results are floats of the format
 power-fits : (w : ℕ) → T (fits binary32 (powerOf w))
 unfolding powerOf
-power-fits w = mul-fits binary32 (significandOf (w % 4294967296)) (twoTo (w / 4294967296 - 1))
+power-fits w = ofBits-fits binary32 ((w / 4294967296 - 2) * 8388608 + (fractionOf (w % 4294967296) + 256) / 512)
 
 pub exp2-fits : (t : Float) → T (fits binary32 (exp2Of t))
 unfolding exp2Of fits
@@ -97,27 +98,27 @@ module _ (lo hi : Float) where
 -- ---- the ranges of the board
 -- from -1 to 1: from 1 / 2 to 2
 pub exp2-octave : {t : Float} → In binary32 (fin true 1 (pos 0)) (fin false 1 (pos 0)) t → In binary32 (fin false 1 (negsuc 0)) (fin false 1 (pos 1)) (exp2Of t)
-unfolding exp2Of powerOf placeOf significandOf fractionOf horner twoTo ofBits mul lt le eq ne fits
+unfolding exp2Of powerOf placeOf fractionOf horner ofBits lt le eq ne fits
 exp2-octave h = exp2-in (fin false 1 (negsuc 0)) (fin false 1 (pos 1)) h tt
 
 -- from -128 / 1200 to 128 / 1200, rounded: from 237 / 256 to 69 / 64
 pub exp2-drift : {t : Float} → In binary32 (fin true 7158279 (negsuc 25)) (fin false 7158279 (negsuc 25)) t → In binary32 (fin false 237 (negsuc 7)) (fin false 69 (negsuc 5)) (exp2Of t)
-unfolding exp2Of powerOf placeOf significandOf fractionOf horner twoTo ofBits mul lt le eq ne fits
+unfolding exp2Of powerOf placeOf fractionOf horner ofBits lt le eq ne fits
 exp2-drift h = exp2-in (fin false 237 (negsuc 7)) (fin false 69 (negsuc 5)) h tt
 
 -- from -16 to 0: from 2 ^ -16 to 1
 pub exp2-gain : {t : Float} → In binary32 (fin true 1 (pos 4)) (fin false 0 (pos 0)) t → In binary32 (fin false 1 (negsuc 15)) (fin false 1 (pos 0)) (exp2Of t)
-unfolding exp2Of powerOf placeOf significandOf fractionOf horner twoTo ofBits mul lt le eq ne fits
+unfolding exp2Of powerOf placeOf fractionOf horner ofBits lt le eq ne fits
 exp2-gain h = exp2-in (fin false 1 (negsuc 15)) (fin false 1 (pos 0)) h tt
 
 -- from -126 to the last float below 127: from 2 ^ -126 to 2 ^ 127, so finite and above 0
 pub exp2-all : {t : Float} → In binary32 (fin true 63 (pos 1)) (fin false 16646143 (negsuc 16)) t → In binary32 (fin false 1 (negsuc 125)) (fin false 1 (pos 127)) (exp2Of t)
-unfolding exp2Of powerOf placeOf significandOf fractionOf horner twoTo ofBits mul lt le eq ne fits
+unfolding exp2Of powerOf placeOf fractionOf horner ofBits lt le eq ne fits
 exp2-all h = exp2-in (fin false 1 (negsuc 125)) (fin false 1 (pos 127)) h tt
 
 -- from -3 to 0: from 25 / 512 to 1
 pub exp-all : {t : Float} → In binary32 (fin true 3 (pos 0)) (fin false 0 (pos 0)) t → In binary32 (fin false 25 (negsuc 8)) (fin false 1 (pos 0)) (expOf t)
-unfolding expOf fallOf powerOf sizeOf significandOf fractionOf horner twoTo ofBits mul lt le eq ne fits
+unfolding expOf fallOf powerOf sizeOf fractionOf horner ofBits lt le eq ne fits
 exp-all h = exp-in (fin false 25 (negsuc 8)) (fin false 1 (pos 0)) h tt
 
 -- a power of ten is not negative

@@ -15,7 +15,7 @@ use Rattle.series.proofs.Horner.{fit, err, total, fix-le, horner-le, horner-ge}
 use Rattle.series.proofs.Polynomial.{cs, cs-is, length-cs, scale, snoc}
 use Rattle.series.proofs.Tail.{addition}
 use Rattle.power.specs.Exact.{sumNum, sumDen}
-use Rattle.power.specs.Power.{roots, coefs, fractionOf}
+use Rattle.power.specs.Power.{roots, coefs, scaledOf, fractionOf}
 use Rattle.power.proofs.Numbers.{P, L, M}
 use Rattle.power.proofs.Moves.{sum-scale, sum-den-scale, sum-den-pos}
 use Rattle.power.proofs.Table.{at}
@@ -166,6 +166,12 @@ module _ (h : ℕ) (hl : h < P) where
   y-lo : P ≤ y
   y-lo = series-lo g
 
+  pub scaled-lo : 4611686018427387904 ≤ scaledOf h
+  scaled-lo = mul-le-mul y-lo (root-lo i (omega arith))
+
+  pub scaled-hi : scaledOf h ≤ 9223372036854775808
+  scaled-hi = le-trans (mul-le-mul y-hi (root-hi i (omega arith))) (lit≤ tt)
+
   cut : y * getD roots i 0 < fractionOf h * 1073741824 + 1073741824
   unfolding fractionOf
   cut = lt-div-mul-add {a = y * getD roots i 0} {b = 1073741824} (lit< tt)
@@ -175,16 +181,12 @@ module _ (h : ℕ) (hl : h < P) where
   kept = div-mul-le-self (y * getD roots i 0) 1073741824
 
   pub fraction-lo : P ≤ fractionOf h
-  fraction-lo = low (fractionOf h) (mul-le-mul y-lo (root-lo i (omega arith))) cut
-    where
-      low : (f : ℕ) → P * 1073741824 ≤ y * getD roots i 0 → y * getD roots i 0 < f * 1073741824 + 1073741824 → P ≤ f
-      low f a b = omega arith
+  unfolding fractionOf
+  fraction-lo = omega (arith, scaled-lo)
 
   pub fraction-hi : fractionOf h ≤ 8589934592
-  fraction-hi = high (fractionOf h) (mul-le-mul y-hi (root-hi i (omega arith))) kept
-    where
-      high : (f : ℕ) → y * getD roots i 0 ≤ 4389014792 * 2101467501 → f * 1073741824 ≤ y * getD roots i 0 → f ≤ 8589934592
-      high f a b = omega arith
+  unfolding fractionOf
+  fraction-hi = omega (arith, scaled-hi)
 
   whole : 134217728 * i + g ≡ h
   whole = omega arith

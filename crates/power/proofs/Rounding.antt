@@ -1,9 +1,9 @@
 -- The rounding's error, and the three errors together: the float of two to the power w - 128 against the exact two-power of any fraction near w.
--- The product with the power of two is exact, so one rounding is left, to 24 digits. Assumes nothing.
+-- The exponent is put into its field, so one rounding is left, to 24 digits. Assumes nothing.
 use mathlib.Core.Path.{_≡_, refl, sym, ap, _∙_}
 use mathlib.Core.Bool.{false}
 use Prim.Native.Nat.{ℕ, _+_, _-_, _*_, _/_, _%_, _^_, _≤_, _<_}
-use native.Mathlib.Nat.{mul-assoc, mul-pos, mul-le-mul-right, le-of-mul-le-mul-right, mod-lt}
+use native.Mathlib.Nat.{mul-pos, mul-le-mul-right, le-of-mul-le-mul-right, mod-lt}
 use native.Mathlib.Omega.{arith}
 use lib.Dec.{lit<, lit≤}
 use lib.Pow.{pow-pos, pow-add}
@@ -13,9 +13,8 @@ use Rattle.series.specs.Near.{Within}
 use Rattle.series.proofs.Algebra.{ac, loosen}
 use Rattle.series.proofs.Nearness.{within-value}
 use Rattle.fixed.proofs.Fields.{pattern-carry, value-other}
-use Rattle.fixed.proofs.Powers.{scale-exact}
 use Rattle.power.specs.Exact.{sumNum, sumDen}
-use Rattle.power.specs.Power.{fractionOf, significandOf, powerOf}
+use Rattle.power.specs.Power.{fractionOf, powerOf}
 use Rattle.power.proofs.Numbers.{P}
 use Rattle.power.proofs.TwoPower.{twoAt}
 use Rattle.power.proofs.Moves.{Ratio, sum-den-pos}
@@ -31,21 +30,12 @@ digits-lo h l = omega (arith, fraction-lo h l)
 pub digits-hi : (h : ℕ) → h < P → digits h ≤ 16777216
 digits-hi h l = omega (arith, fraction-hi h l)
 
--- the rounding's error of exp2, exp and pow10: the significand to 24 digits. The product with the power of two adds none
+-- the rounding's error of exp2, exp and pow10: the significand to 24 digits. The exponent adds none
 power-rounding-over : (h : ℕ) → h < P → 16777216 * (512 * digits h) ≤ 16777217 * fractionOf h
 power-rounding-over h l = omega (arith, fraction-lo h l)
 
 power-rounding-under : (h : ℕ) → h < P → 16777216 * fractionOf h ≤ 16777217 * (512 * digits h)
 power-rounding-under h l = omega (arith, fraction-lo h l)
-
-significand-value : (h : ℕ) → h < P → HasValue (significandOf h) false (digits h) (2 ^ 23)
-unfolding significandOf
-significand-value h l =
-    value-other (ofBits binary32 (1056964608 + digits h)) false (digits h * 2 ^ 126) (2 ^ 149) (digits h) (2 ^ 23) (pow-pos 149) (turn (digits h) (2 ^ 149) (2 ^ 126) (2 ^ 23) refl)
-    (pattern-carry 126 (digits h) (lit< tt) (digits-lo h l) (digits-hi h l))
-  where
-    turn : (q a b c : ℕ) → a ≡ b * c → q * a ≡ q * b * c
-    turn q a b c e = rw e (sym (mul-assoc q b c))
 
 module _ (w : ℕ) (lo : 2 * P ≤ w) (hi : w < 255 * P) where
   abbrev h : ℕ
@@ -59,7 +49,16 @@ module _ (w : ℕ) (lo : 2 * P ≤ w) (hi : w < 255 * P) where
 
   pub power-value : HasValue (powerOf w) false (digits (w % P) * 2 ^ (w / P - 1)) (2 ^ 150)
   unfolding powerOf
-  power-value = scale-exact (significandOf h) (digits h) (w / P - 1) (significand-value h h-lt) (digits-lo h h-lt) (digits-hi h h-lt) (omega arith) (omega arith)
+  power-value =
+      value-other (ofBits binary32 ((w / P - 2) * 8388608 + digits h)) false (digits h * 2 ^ (w / P - 2)) (2 ^ 149) (digits h * E) (2 ^ 150) (pow-pos 149)
+      (rw (ap (λ (i : ℕ). 2 ^ i) back ∙ pow-add 2 1 (w / P - 2)) (turn (digits h) (2 ^ (w / P - 2)) (2 ^ 149) (2 ^ 150) refl))
+      (pattern-carry (w / P - 2) (digits h) (omega arith) (digits-lo h h-lt) (digits-hi h h-lt))
+    where
+      back : w / P - 1 ≡ 1 + (w / P - 2)
+      back = omega arith
+
+      turn : (q x a b : ℕ) → 2 * a ≡ b → q * (2 * x) * a ≡ q * x * b
+      turn q x a b e = rw (← e) (simp ac)
 
   whole-power : twoAt P w ≡ 2 * E * sumNum h P
   unfolding twoAt

@@ -4,9 +4,9 @@ use mathlib.Core.List.{List, [], _∷_}
 use Prim.Native.Nat.{ℕ, _+_, _-_, _*_, _/_, _%_, _^_}
 use lib.IntN.{pos}
 use lib.ListN.{getD}
-use lib.Ieee.{Float, nan, inf, fin, binary32, ofBits, mul, lt, le, ne}
+use lib.Ieee.{Float, nan, inf, fin, binary32, ofBits, lt, le, ne}
 use Rattle.series.specs.Horner.{horner}
-use Rattle.fixed.specs.Fixed.{placeOf, sizeOf, twoTo}
+use Rattle.fixed.specs.Fixed.{placeOf, sizeOf}
 
 -- 2 ^ (i / 32) in Q30, cut
 abbrev pub roots : List ℕ
@@ -20,17 +20,17 @@ roots =
 abbrev pub coefs : List ℕ
 coefs = 4294967296 ∷ 93032639 ∷ 1007582 ∷ 7275 ∷ []
 
--- 2 ^ h in Q32, for an h of Q32: the root at its first five digits, times the series at the rest
+-- 2 ^ h in Q62, for an h of Q32: the root at its first five digits, times the series at the rest
+abbrev pub scaledOf : ℕ → ℕ
+scaledOf h = horner (2 ^ 32) coefs (h % 2 ^ 27 * 32) * getD roots (h / 2 ^ 27) 0
+
+-- the same in Q32, cut
 unfoldable pub fractionOf : ℕ → ℕ
-fractionOf h = horner (2 ^ 32) coefs (h % 2 ^ 27 * 32) * getD roots (h / 2 ^ 27) 0 / 2 ^ 30
+fractionOf h = scaledOf h / 2 ^ 30
 
--- the same as a float, to the nearest
-unfoldable pub significandOf : ℕ → Float
-significandOf h = ofBits binary32 (126 * 2 ^ 23 + (fractionOf h + 2 ^ 8) / 2 ^ 9)
-
--- two to the power w - 128, for a w of Q32
+-- two to the power w - 128, for a w of Q32: the exponent's field, and 24 digits, to the nearest
 unfoldable pub powerOf : ℕ → Float
-powerOf w = mul binary32 (significandOf (w % 2 ^ 32)) (twoTo (w / 2 ^ 32 - 1))
+powerOf w = ofBits binary32 ((w / 2 ^ 32 - 2) * 2 ^ 23 + (fractionOf (w % 2 ^ 32) + 2 ^ 8) / 2 ^ 9)
 
 -- v * k in Q32, for v and k of Q32, cut
 abbrev pub productOf : ℕ → ℕ → ℕ

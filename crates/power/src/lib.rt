@@ -2,7 +2,8 @@
 ghost use mathlib.Core.Path.{_≡_};
 ghost use Prim.Native.Nat.{_+_, _*_, _/_, _<_, _≤_};
 ghost use lib.ListN.{getD};
-ghost use Rattle.power.specs.Power.{roots, fractionOf, powerOf, productOf, exp2Of, expOf, pow10Of};
+ghost use Rattle.fixed.specs.Fixed.{shifted};
+ghost use Rattle.power.specs.Power.{roots, scaledOf, fractionOf, powerOf, productOf, exp2Of, expOf, pow10Of};
 ghost use Rattle.power.specs.Near.{Exp2Near, ExpNear, Pow10Near};
 
 // log2 e and log2 10 in Q32
@@ -59,16 +60,24 @@ fn step(b: u64, y: u64, k: u64) -> u64
     b + y * k / 4294967296
 }
 
-// 2^h in Q32, for an h of Q32 below 1
-pub fn fraction(h: u64) -> u64
+// 2^h in Q62, for an h of Q32 below 1
+fn scaled(h: u64) -> u64
     requires { ⌜ h < 4294967296 ⌝ }
-    ensures { λ r. ⌜ (r ≡ fractionOf h) × (4294967296 ≤ r) × (r ≤ 8589934592) ⌝ }
+    ensures { λ r. ⌜ (r ≡ scaledOf h) × (4611686018427387904 ≤ r) × (r ≤ 9223372036854775808) ⌝ }
 {
     let k = h % 134217728 * 32; // Q32
     let y2 = step(1007582, 7275, k);
     let y1 = step(93032639, y2, k);
     let y = step(4294967296, y1, k); // Q32
-    y * root(h / 134217728) / 1073741824
+    y * root(h / 134217728)
+}
+
+// the same in Q32
+pub fn fraction(h: u64) -> u64
+    requires { ⌜ h < 4294967296 ⌝ }
+    ensures { λ r. ⌜ (r ≡ fractionOf h) × (4294967296 ≤ r) × (r ≤ 8589934592) ⌝ }
+{
+    scaled(h) / 1073741824
 }
 
 // 2^(w - 128), for a w of Q32
@@ -76,9 +85,8 @@ pub fn power(w: u64) -> f32
     requires { ⌜ (8589934592 ≤ w) × (w < 1095216660480) ⌝ }
     ensures { λ r. ⌜ r ≡ powerOf w ⌝ }
 {
-    let y = fraction(w % 4294967296); // Q32
-    let s = f32::from_bits((1056964608 + (y + 256) / 512) as u32);
-    s * fixed::two_to(w / 4294967296 - 1)
+    let m = (scaled(w % 4294967296) + 274877906944) / 549755813888; // Q23
+    f32::from_bits(((w / 4294967296 - 2) * 8388608 + m) as u32)
 }
 
 // v * k of Q32, both of Q32, in two parts so that no product passes 64 bits
@@ -89,20 +97,32 @@ pub fn product(v: u64, k: u64) -> u64
     (v / 65536 * k + v % 65536 * k / 65536) / 65536
 }
 
+// 128 ± u of Q32
+fn side(negative: bool, u: u64) -> u64
+    requires { ⌜ u ≤ 541165879296 ⌝ }
+    ensures { λ r. ⌜ r ≡ shifted negative u 4294967296 ⌝ }
+{
+    if negative {
+        549755813888 - u
+    } else {
+        549755813888 + u
+    }
+}
+
 pub fn exp2(t: f32) -> f32
     ensures is { λ r. ⌜ r ≡ exp2Of t ⌝ }
     ensures near { λ r. ⌜ Exp2Near t r ⌝ }
 {
+    if (t >= -126.0) & (t < 127.0) {
+        return power(fixed::spot(t));
+    }
     if t != t {
         return t;
     }
     if t < -126.0 {
         return 0.0;
     }
-    if t >= 127.0 {
-        return 1.0 / 0.0;
-    }
-    power(fixed::spot(t))
+    1.0 / 0.0
 }
 
 pub fn exp(t: f32) -> f32
@@ -119,18 +139,15 @@ pub fn pow10(t: f32) -> f32
     ensures is { λ r. ⌜ r ≡ pow10Of t ⌝ }
     ensures near { λ r. ⌜ Pow10Near t r ⌝ }
 {
+    if (t >= -37.0) & (t <= 37.0) {
+        let u = product(fixed::size(t), LOG2_TEN); // Q32
+        return power(side(t < 0.0, u));
+    }
     if t != t {
         return t;
     }
     if t < -37.0 {
         return 0.0;
     }
-    if t > 37.0 {
-        return 1.0 / 0.0;
-    }
-    let u = product(fixed::size(t), LOG2_TEN); // Q32
-    if t < 0.0 {
-        return power(549755813888 - u);
-    }
-    power(549755813888 + u)
+    1.0 / 0.0
 }

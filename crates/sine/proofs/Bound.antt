@@ -7,9 +7,9 @@ use native.Mathlib.Nat.{le-dest, le-of-lt, le-trans, mul-le-mul, mul-le-mul-left
 use native.Mathlib.Omega.{arith}
 use lib.Dec.{T, leb, leb→le, nleb→lt, lit<, lit≤}
 use Rattle.series.proofs.Algebra.{ac}
-use Rattle.sine.specs.Series.{nested}
-use Rattle.sine.specs.Sine.{coefs, quarter31, sincOf, sineFix}
-use Rattle.sine.proofs.Nested.{head, tail, nested-le}
+use Rattle.sine.specs.Sine.{quarter31, sincOf, sineFix}
+use Rattle.sine.proofs.Nested.{nested, head, tail, nested-le}
+use Rattle.sine.proofs.Pairs.{terms, pairs-near}
 
 cubic : (z w : ℕ) → 3 * z * (w * w) ≤ z * z * z + 2 * (w * w * w)
 cubic z w = go (leb z w) (leb→le z w) (nleb→lt z w)
@@ -43,7 +43,7 @@ top-step y r u v e h = omega arith
 
 -- the series from its second coefficient on
 abbrev rest : List ℕ
-rest = tail coefs
+rest = tail terms
 
 second-step : (y v : ℕ) → y ≤ head (tail rest) → v ≤ 2649351758 → 2510064631 ≤ head rest - y * v / P
 second-step y v h k = omega (arith, mul-le-mul h k)
@@ -55,8 +55,8 @@ rest-low v h = second-step (nested P (tail rest) v) v (nested-le P (tail rest) v
 rest-small : (v : ℕ) → v ≤ P → nested P rest v * v / P ≤ P
 rest-small v h = div-le-of-le-mul P (mul-le-mul {n₂ = P} (le-trans (nested-le P rest v) (lit≤ tt)) h)
 
-product-high : (z : ℕ) → z ≤ quarter31 → z * sincOf (z * z / P) ≤ 9295978702241747062
-unfolding sincOf nested
+product-high : (z : ℕ) → z ≤ quarter31 → z * nested P terms (z * z / P) ≤ 9295978702241747062
+unfolding nested
 product-high z h =
     let v = z * z / P in
     let vl : v ≤ 2649351758 = div-le-of-le-mul P (le-trans (mul-le-mul h h) (lit≤ tt)) in
@@ -70,10 +70,11 @@ product-high z h =
     (lit≤ tt))
     (lit< tt)
 
--- in Q63
+-- in Q63, by pairs
 pub sine-high : (z : ℕ) → z ≤ quarter31 → 1000 * sineFix z ≤ 9297159013149614014464
 unfolding sineFix
-sine-high z h = top (z * sincOf (z * z / P)) (product-high z h)
+sine-high z h =
+    top z (sincOf (z * z / P)) (nested P terms (z * z / P)) h (product-high z h) (pairs-near (z * z / P) (div-le-of-le-mul P (le-trans (mul-le-mul h h) (lit≤ tt))) .0)
   where
-    top : (n : ℕ) → n ≤ 9295978702241747062 → 1000 * (n + 1) ≤ 9297159013149614014464
-    top n l = omega arith
+    top : (z x y : ℕ) → z ≤ quarter31 → z * y ≤ 9295978702241747062 → x ≤ y + 243 → 1000 * (z * x + 1) ≤ 9297159013149614014464
+    top z x y h l k = omega (arith, mul-le-mul-left z k)

@@ -1,18 +1,18 @@
 -- sin and cos of every `f32`: the ranges, and the distances. The cosine is the sine a quarter turn on, j = 1, so `sin-method`, `sin-reduction` and `sin-rounding` serve both. Assumes nothing.
 use mathlib.Core.Path.{_≡_, refl, sym, ap, _∙_, subst}
-use mathlib.Core.Bool.{Bool, true, false, not, cond}
+use mathlib.Core.Bool.{Bool, true, false, not, cond, _&&_}
 use Prim.Native.Nat.{ℕ, _+_, _*_, _/_, _≤_, _<_}
 use native.Mathlib.Nat.{le-of-lt, zero-mul, div-mul-le-self, lt-div-mul-add, mul-le-mul-right}
 use native.Mathlib.Omega.{arith}
-use lib.IntN.{ℤ, pos}
-use lib.Dec.{T, lt→ltb}
+use lib.IntN.{ℤ, pos, negsuc}
+use lib.Dec.{T, lt→ltb, T-not, not-T}
 use lib.Ieee.{Float, nan, inf, fin, up, down, lt, le, eq, isNan}
 use lib.Ieee.Bits.{is-true, is-false}
-use lib.Ieee.Fits.{and-l, and-r, down-pos}
+use lib.Ieee.Fits.{and-i, and-l, and-r, down-pos}
 use lib.Ieee.Positive.{positive, num, den}
 use Rattle.series.specs.Near.{Beside, Apart}
 use Rattle.fixed.specs.Fixed.{sizeOf, small}
-use Rattle.fixed.proofs.Order.{le-says, lt-says, not-lt}
+use Rattle.fixed.proofs.Order.{le-says, le-make, lt-says, not-lt, le-not-lt, le-left, other-off}
 use Rattle.sine.specs.Exact.{turns, lower, sineNum, sineDen}
 use Rattle.sine.specs.Sine.{eight, little, upTo, waveOf, sinOf, cosOf, Sine}
 use Rattle.sine.proofs.Rounding.{wave-near}
@@ -109,3 +109,44 @@ up-small nan t = t
 up-small (inf true) t = t
 up-small (inf false) t = t
 up-small (fin s m e) t = lt→ltb (m * up e) (128 * down e) (omega (arith, up-to s m e eight tt t, down-pos e))
+
+-- ---- where the sine is its argument, is computed, and is no number
+from-little : (x : Float) → T (le little x) → T (le (fin false 0 (pos 0)) x)
+unfolding le lt eq
+from-little nan h = h
+from-little (inf true) h = h
+from-little (inf false) h = tt
+from-little (fin false m e) h = le-make false 0 (pos 0) false m e (omega arith)
+from-little (fin true m e) h = absurd (none (le-says false 1 (negsuc 9) true m e h .0))
+  where
+    none : 1 * 1 * down e ≡ 0 → ⊥
+    none z = omega (arith, down-pos e)
+
+to-eight : (x : Float) → T (lt x little) → T (le x eight)
+unfolding le lt eq
+to-eight nan h = h
+to-eight (inf true) h = tt
+to-eight (inf false) h = h
+to-eight (fin true m e) h = le-make true m e false 1 (pos 3) tt
+to-eight (fin false m e) h = le-make false m e false 1 (pos 3) (omega (arith, lt-says false m e false 1 (negsuc 9) h))
+
+module _ (x : Float) where
+  pub from-says : T (le little x && le x eight) → T (upTo eight x) × T (not (lt x little))
+  from-says t =
+      let l = and-l (le little x) (le x eight) t in
+      (and-i (le (fin false 0 (pos 0)) x) (le x eight) (from-little x l) (and-r (le little x) (le x eight) t), le-not-lt little x l)
+
+  pub below-says : T (le (fin false 0 (pos 0)) x && lt x little) → T (upTo eight x) × T (lt x little)
+  below-says t =
+      let l = and-r (le (fin false 0 (pos 0)) x) (lt x little) t in
+      (and-i (le (fin false 0 (pos 0)) x) (le x eight) (and-l (le (fin false 0 (pos 0)) x) (lt x little) t) (to-eight x l), l)
+
+  pub none-says : T (not (le little x && le x eight)) → T (not (le (fin false 0 (pos 0)) x && lt x little)) → T (not (upTo eight x))
+  none-says n b = not-T (upTo eight x) no
+    where
+      no : T (upTo eight x) → ⊥
+      no t =
+          let z = and-l (le (fin false 0 (pos 0)) x) (le x eight) t in
+          let w = and-r (le (fin false 0 (pos 0)) x) (le x eight) t in
+          let l = not-lt x little (le-left x eight w) (unfold isNan in tt) (other-off (le (fin false 0 (pos 0)) x) (lt x little) b z) in
+          T-not (le x eight) (other-off (le little x) (le x eight) n l) w

@@ -1,6 +1,7 @@
 -- The laws of sin, cos and tan. Assumes nothing.
 pub mod Sign
 pub mod Nested
+pub mod Pairs
 pub mod Turn
 pub mod Method
 pub mod Rounding

@@ -5,10 +5,11 @@ use native.Mathlib.Nat.{le-trans, le-of-eq, le-of-lt, mul-one, mul-pos, mul-le-m
 use native.Mathlib.Omega.{arith}
 use lib.Dec.{lit<, lit≤}
 use Rattle.series.proofs.Algebra.{ac}
-use Rattle.sine.specs.Series.{alternating, nested}
+use Rattle.sine.specs.Series.{alternating}
 use Rattle.sine.specs.Exact.{odds, sincNum, sincDen, oddNum, oddDen}
-use Rattle.sine.specs.Sine.{coefs, quarter31, sincOf, sineFix}
-use Rattle.sine.proofs.Nested.{tail, nested-near, nested-le, slack}
+use Rattle.sine.specs.Sine.{quarter31, sincOf, sineFix}
+use Rattle.sine.proofs.Nested.{nested, tail, nested-near, slack}
+use Rattle.sine.proofs.Pairs.{terms, pairs-near, sinc-le}
 
 abbrev Q : ℕ
 Q = 2147483648
@@ -42,6 +43,13 @@ cancel-low y K Z t R N e A tp q h = le-of-mul-le-mul-right {k = t} (simp ac (ome
 cancel-high : (y K Z t R N e A : ℕ) → 0 < t → A ≡ Z * t → R * 1 * N * t ≤ y * K * A + e * K * A → R * N ≤ y * (K * Z) + e * (K * Z)
 cancel-high y K Z t R N e A tp q h = le-of-mul-le-mul-right {k = t} (simp ac (omega (arith, simp ac at (rw (q, mul-one R) at h)))) tp
 
+-- the pairs are within 243 units of Horner's rule, which is within 49 of the series
+widen-low : (x y D R : ℕ) → x ≤ y + 243 → y * D ≤ R + 49 * D → x * D ≤ R + 292 * D
+widen-low x y D R h k = omega (arith, mul-le-mul-right D h)
+
+widen-high : (x y D R : ℕ) → y ≤ x + 243 → R ≤ y * D + 49 * D → R ≤ x * D + 292 * D
+widen-high x y D R h k = omega (arith, mul-le-mul-right D h)
+
 -- the series is at most its first term
 pub odd-le : (f d : ℕ) → sincNum f d ≤ sincDen d
 unfolding alternating
@@ -70,26 +78,30 @@ module _ (f d z : ℕ) (dp : 0 < d) (low : z * d ≤ f * Q + 2 * d) (high : f * 
       shuffle : (d : ℕ) → 2 * d * (2 * d) ≡ 4 * (d * d)
       shuffle d = omega arith
 
-  series : (nested P coefs v * 6227020800 * (d * d) ^ 7 ≤ P * 1 * sincNum f d * (d * d) + slack 5 coefs * 6227020800 * (d * d) ^ 7) × (P * 1 * sincNum f d * (d * d) ≤ nested P coefs v * 6227020800 * (d * d) ^ 7 + slack 5 coefs * 6227020800 * (d * d) ^ 7)
-  series = nested-near P 6227020800 4 5 (f * f) (d * d) v (lit< tt) (lit< tt) v-low v-high v-le wide 1 coefs odds tt
+  series : (nested P terms v * 6227020800 * (d * d) ^ 7 ≤ P * 1 * sincNum f d * (d * d) + slack 5 terms * 6227020800 * (d * d) ^ 7) × (P * 1 * sincNum f d * (d * d) ≤ nested P terms v * 6227020800 * (d * d) ^ 7 + slack 5 terms * 6227020800 * (d * d) ^ 7)
+  series = nested-near P 6227020800 4 5 (f * f) (d * d) v (lit< tt) (lit< tt) v-low v-high v-le wide 1 terms odds tt
 
-  abbrev y : ℕ
-  y = nested P coefs v
-
-  slack-is : slack 5 coefs ≡ 49
+  slack-is : slack 5 terms ≡ 49
   unfolding slack
   slack-is = refl
 
-  -- the series in Q32 is off by 49 units
-  pub sinc-near : (sincOf (z * z / 4294967296) * sincDen d ≤ 4294967296 * sincNum f d + 49 * sincDen d) × (4294967296 * sincNum f d ≤ sincOf (z * z / 4294967296) * sincDen d + 49 * sincDen d)
-  unfolding sincOf
-  sinc-near = (rw slack-is at (cancel-low y 6227020800 ((d * d) ^ 6) (d * d) P (sincNum f d) (slack 5 coefs) ((d * d) ^ 7) dd (pow-suc (d * d) 6) (series .0)), rw slack-is at (cancel-high y 6227020800 ((d * d) ^ 6) (d * d) P (sincNum f d) (slack 5 coefs) ((d * d) ^ 7) dd (pow-suc (d * d) 6) (series .1)))
+  horner-near : (nested P terms v * sincDen d ≤ P * sincNum f d + 49 * sincDen d) × (P * sincNum f d ≤ nested P terms v * sincDen d + 49 * sincDen d)
+  horner-near =
+      let y = nested P terms v in
+      (rw slack-is at (cancel-low y 6227020800 ((d * d) ^ 6) (d * d) P (sincNum f d) (slack 5 terms) ((d * d) ^ 7) dd (pow-suc (d * d) 6) (series .0)), rw slack-is at (cancel-high y 6227020800 ((d * d) ^ 6) (d * d) P (sincNum f d) (slack 5 terms) ((d * d) ^ 7) dd (pow-suc (d * d) 6) (series .1)))
 
-  -- the sine in Q63 is off by 52 units of Q31
-  pub sin-method : (sineFix z * oddDen d ≤ Q * P * oddNum f d + 52 * P * oddDen d) × (Q * P * oddNum f d ≤ sineFix z * oddDen d + 52 * P * oddDen d)
-  unfolding sineFix sincOf
+  -- the series in Q32 is off by 292 units
+  pub sinc-near : (sincOf (z * z / 4294967296) * sincDen d ≤ 4294967296 * sincNum f d + 292 * sincDen d) × (4294967296 * sincNum f d ≤ sincOf (z * z / 4294967296) * sincDen d + 292 * sincDen d)
+  sinc-near =
+      let p = pairs-near v (div-le-of-le-mul P (le-trans (mul-le-mul zc zc) (lit≤ tt))) in
+      (widen-low (sincOf v) (nested P terms v) (sincDen d) (P * sincNum f d) (p .0) (horner-near .0), widen-high (sincOf v) (nested P terms v) (sincDen d) (P * sincNum f d) (p .1) (horner-near .1))
+
+  -- the sine in Q63 is off by 295 units of Q31
+  pub sin-method : (sineFix z * oddDen d ≤ Q * P * oddNum f d + 295 * P * oddDen d) × (Q * P * oddNum f d ≤ sineFix z * oddDen d + 295 * P * oddDen d)
+  unfolding sineFix
   sin-method =
       let s = sinc-near in
-      let l = product-low z d f y (sincNum f d) (sincDen d) 49 low fd (nested-le P coefs v) (s .0) in
-      let h = product-high z d f y (sincNum f d) (sincDen d) 49 high fd (odd-le f d) (nested-le P coefs v) (s .1) in
+      let y = sincOf v in
+      let l = product-low z d f y (sincNum f d) (sincDen d) 292 low fd (sinc-le v v-le) (s .0) in
+      let h = product-high z d f y (sincNum f d) (sincDen d) 292 high fd (odd-le f d) (sinc-le v v-le) (s .1) in
       (omega (arith, l), omega (arith, h))

@@ -10,7 +10,12 @@ use lib.Dec.{T, leb, leb→le}
 use lib.ListN.{length}
 use lib.Ieee.Fits.{and-l, and-r}
 use Rattle.series.proofs.Algebra.{ac}
-use Rattle.sine.specs.Series.{alternating, nested}
+use Rattle.sine.specs.Series.{alternating}
+
+-- b₀ - b₁ w + b₂ w² - .. at w = v / P, in units of 1 / P, each product cut
+unfoldable pub nested : ℕ → List ℕ → ℕ → ℕ
+nested P [] v = 0
+nested P (b ∷ bs) v = b - nested P bs v * v / P
 
 abbrev pub head : List ℕ → ℕ
 head [] = 0

@@ -4,10 +4,10 @@ use native.Mathlib.Nat.{le-trans, le-of-lt, lt-of-lt-of-le, mul-le-mul, mul-le-m
 use native.Mathlib.Omega.{arith}
 use lib.Dec.{lit<, lit≤}
 use Rattle.series.proofs.Algebra.{ac}
-use Rattle.sine.specs.Series.{nested}
+use Rattle.sine.specs.Series.{paired}
 use Rattle.sine.specs.Exact.{sincNum, sincDen, oddNum, oddDen}
-use Rattle.sine.specs.Sine.{coefs, sincOf, sineFix, quarter31, ratioOf}
-use Rattle.sine.proofs.Nested.{tail, nested-le}
+use Rattle.sine.specs.Sine.{sincOf, sineFix, quarter31, ratioOf}
+use Rattle.sine.proofs.Pairs.{sinc-le}
 use Rattle.sine.proofs.Method.{sinc-near, sin-method}
 use Rattle.sine.proofs.Rounding.{fix-small}
 
@@ -20,11 +20,11 @@ P = 4294967296
 -- ---- sizes
 -- sin z / z is above 1 / 2 within a quarter turn
 pub sinc-low : (z : ℕ) → z ≤ quarter31 → Q ≤ sincOf (z * z / P)
-unfolding sincOf nested
+unfolding sincOf paired
 sinc-low z h =
     let v = z * z / P in
     let l : v ≤ 2649351758 = div-le-of-le-mul P (le-trans (mul-le-mul h h) (lit≤ tt)) in
-    omega (arith, mul-le-mul (nested-le P (tail coefs) v) l)
+    omega (arith, l)
 
 -- the cosine in Q31 of an angle up to 1.5
 abbrev pub cosFix : ℕ → ℕ
@@ -39,10 +39,6 @@ cos-low z h =
 pub cos-high : (z : ℕ) → cosFix z < P
 cos-high z = div-lt-iff-lt-mul {k = P} (lit< tt) .1 (fix-small (quarter31 - z) (omega arith))
 
-pub sinc-high : (v : ℕ) → sincOf v ≤ P
-unfolding sincOf
-sinc-high v = nested-le P coefs v
-
 quotient-low : (y c : ℕ) → Q ≤ y → c < P → 1073741824 * c ≤ y * Q
 quotient-low y c h k = omega arith
 
@@ -55,7 +51,7 @@ quotient-high y c h k = omega arith
 
 pub ratio-high : (z : ℕ) → z ≤ 3221225472 → ratioOf z ≤ 137438953472
 unfolding ratioOf
-ratio-high z h = div-le-of-le-mul (cosFix z) (quotient-high (sincOf (z * z / P)) (cosFix z) (sinc-high (z * z / P)) (cos-low z h))
+ratio-high z h = div-le-of-le-mul (cosFix z) (quotient-high (sincOf (z * z / P)) (cosFix z) (sinc-le (z * z / P) (div-le-of-le-mul P (le-trans (mul-le-mul h h) (lit≤ tt)))) (cos-low z h))
 
 -- ---- errors, as parts of the numbers
 part-low : (b e y X D : ℕ) → b ≤ y → y * D ≤ X + e * D → b * (y * D) ≤ b * X + e * (y * D)
@@ -78,22 +74,22 @@ over-low r h y D N num den b₁ b₁' b₂ b₂' b₃ b₃' k₁ k₂ k₃ =
     (lit< tt)
 
 -- the cosine in Q31
-cut-low : (h g num den : ℕ) → h * P ≤ g → g * den ≤ Q * P * num + 52 * P * den → h * den ≤ Q * num + 52 * den
+cut-low : (h g num den : ℕ) → h * P ≤ g → g * den ≤ Q * P * num + 295 * P * den → h * den ≤ Q * num + 295 * den
 cut-low h g num den k l = omega (arith, mul-le-mul-right den k)
 
-cut-high : (h g num den : ℕ) → g ≤ h * P + P → Q * P * num ≤ g * den + 52 * P * den → Q * num ≤ h * den + 53 * den
+cut-high : (h g num den : ℕ) → g ≤ h * P + P → Q * P * num ≤ g * den + 295 * P * den → Q * num ≤ h * den + 296 * den
 cut-high h g num den k l = omega (arith, mul-le-mul-right den k)
 
-part-less : (y X : ℕ) → 2147483648 * y ≤ 2147483648 * X + 49 * y → 2147483599 * y ≤ 2147483648 * X
+part-less : (y X : ℕ) → 2147483648 * y ≤ 2147483648 * X + 292 * y → 2147483356 * y ≤ 2147483648 * X
 part-less y X h = omega arith
 
-part-more : (y X : ℕ) → 2147483648 * X ≤ 2147483648 * y + 49 * y → 2147483648 * X ≤ 2147483697 * y
+part-more : (y X : ℕ) → 2147483648 * X ≤ 2147483648 * y + 292 * y → 2147483648 * X ≤ 2147483940 * y
 part-more y X h = omega arith
 
-cos-less : (y X : ℕ) → 67108864 * y ≤ 67108864 * X + 52 * y → 67108811 * y ≤ 67108864 * X
+cos-less : (y X : ℕ) → 67108864 * y ≤ 67108864 * X + 295 * y → 67108568 * y ≤ 67108864 * X
 cos-less y X h = omega arith
 
-cos-more : (y X : ℕ) → 67108864 * X ≤ 67108864 * y + 53 * y → 67108864 * X ≤ 67108917 * y
+cos-more : (y X : ℕ) → 67108864 * X ≤ 67108864 * y + 296 * y → 67108864 * X ≤ 67109160 * y
 cos-more y X h = omega arith
 
 last-cut : (y r h : ℕ) → 1073741824 ≤ r → y ≤ r * h + h → 1073741824 * y ≤ 1073741825 * (r * h)
@@ -116,28 +112,28 @@ module _ (f g d z : ℕ) (dp : 0 < d) (zl : z ≤ 3221225472) (f-low : z * d ≤
   zq : z ≤ quarter31
   zq = le-trans zl (lit≤ tt)
 
-  cos-method : (sineFix (quarter31 - z) * oddDen d ≤ Q * P * oddNum g d + 52 * P * oddDen d) × (Q * P * oddNum g d ≤ sineFix (quarter31 - z) * oddDen d + 52 * P * oddDen d)
+  cos-method : (sineFix (quarter31 - z) * oddDen d ≤ Q * P * oddNum g d + 295 * P * oddDen d) × (Q * P * oddNum g d ≤ sineFix (quarter31 - z) * oddDen d + 295 * P * oddDen d)
   cos-method = sin-method g d (quarter31 - z) dp g-low g-high gd (sub-le quarter31 z)
 
-  pub cos-below : cosFix z * oddDen d ≤ Q * oddNum g d + 52 * oddDen d
+  pub cos-below : cosFix z * oddDen d ≤ Q * oddNum g d + 295 * oddDen d
   cos-below = cut-low h (sineFix (quarter31 - z)) (oddNum g d) (oddDen d) (div-mul-le-self (sineFix (quarter31 - z)) P) (cos-method .0)
 
-  pub cos-above : Q * oddNum g d ≤ cosFix z * oddDen d + 53 * oddDen d
+  pub cos-above : Q * oddNum g d ≤ cosFix z * oddDen d + 296 * oddDen d
   cos-above = cut-high h (sineFix (quarter31 - z)) (oddNum g d) (oddDen d) (le-of-lt (lt-div-mul-add {a = sineFix (quarter31 - z)} {b = P} (lit< tt))) (cos-method .1)
 
-  pub tan-method : (2147483599 * 67108864 * (ratioOf z * D * oddNum g d) ≤ 67108917 * 2147483648 * (P * N * oddDen d))
-      × (2147483648 * 1073741824 * 67108811 * (P * N * oddDen d) ≤ 2147483697 * 1073741825 * 67108864 * (ratioOf z * D * oddNum g d))
+  pub tan-method : (2147483356 * 67108864 * (ratioOf z * D * oddNum g d) ≤ 67109160 * 2147483648 * (P * N * oddDen d))
+      × (2147483648 * 1073741824 * 67108568 * (P * N * oddDen d) ≤ 2147483940 * 1073741825 * 67108864 * (ratioOf z * D * oddNum g d))
   unfolding ratioOf
   tan-method =
       let s = sinc-near f d z dp f-low f-high fd zq in
       let yl = sinc-low z zq in
       let hl = cos-low z zl in
       let r = y * Q / h in (
-        over-high r h y D N (oddNum g d) (oddDen d) 2147483648 2147483599 67108864 67108917 (div-mul-le-self (y * Q) h)
-            (cos-more (h * oddDen d) (Q * oddNum g d) (part-high 67108864 53 h (Q * oddNum g d) (oddDen d) hl cos-above))
-            (part-less (y * D) (P * N) (part-low 2147483648 49 y (P * N) D yl (s .0))),
-        over-low r h y D N (oddNum g d) (oddDen d) 2147483648 2147483697 67108864 67108811 1073741824 1073741825
+        over-high r h y D N (oddNum g d) (oddDen d) 2147483648 2147483356 67108864 67109160 (div-mul-le-self (y * Q) h)
+            (cos-more (h * oddDen d) (Q * oddNum g d) (part-high 67108864 296 h (Q * oddNum g d) (oddDen d) hl cos-above))
+            (part-less (y * D) (P * N) (part-low 2147483648 292 y (P * N) D yl (s .0))),
+        over-low r h y D N (oddNum g d) (oddDen d) 2147483648 2147483940 67108864 67108568 1073741824 1073741825
             (last-cut (y * Q) r h (ratio-low z zl) (le-of-lt (lt-div-mul-add {a = y * Q} (lt-of-lt-of-le (lit< tt) hl))))
-            (cos-less (h * oddDen d) (Q * oddNum g d) (part-low 67108864 52 h (Q * oddNum g d) (oddDen d) hl cos-below))
-            (part-more (y * D) (P * N) (part-high 2147483648 49 y (P * N) D yl (s .1))),
+            (cos-less (h * oddDen d) (Q * oddNum g d) (part-low 67108864 295 h (Q * oddNum g d) (oddDen d) hl cos-below))
+            (part-more (y * D) (P * N) (part-high 2147483648 292 y (P * N) D yl (s .1))),
       )

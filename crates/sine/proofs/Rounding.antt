@@ -3,7 +3,7 @@ use mathlib.Core.Path.{sym}
 use mathlib.Core.Logic.{inl, inr}
 use mathlib.Core.Bool.{Bool, true, false, not, cond}
 use Prim.Native.Nat.{ℕ, _+_, _-_, _*_, _/_, _%_, _^_, _≤_, _<_}
-use native.Mathlib.Nat.{le-trans, le-of-eq, le-of-lt, mul-assoc, mul-le-mul, mul-le-mul-right, le-of-mul-le-mul-right, sub-le, mod-lt}
+use native.Mathlib.Nat.{le-trans, le-of-eq, le-of-lt, mul-assoc, mul-le-mul, mul-le-mul-right, le-of-mul-le-mul-right, sub-le, mod-lt, div-le-of-le-mul}
 use native.Mathlib.Omega.{arith}
 use lib.Dec.{eqb, lit<, lit≤}
 use lib.Ieee.{Float, nan, inf, fin, up, down, neg}
@@ -13,8 +13,8 @@ use Rattle.series.proofs.Nearness.{beside-neg}
 use Rattle.fixed.specs.Fixed.{packOf}
 use Rattle.fixed.proofs.Packs.{packed}
 use Rattle.sine.specs.Exact.{unit, quarter, turns, rest, within, lower, sincNum, sincDen, oddNum, oddDen, sineNum, sineDen}
-use Rattle.sine.specs.Sine.{coefs, quarter31, sincOf, sineFix, signed, waveOf}
-use Rattle.sine.proofs.Nested.{nested-le}
+use Rattle.sine.specs.Sine.{quarter31, sineFix, signed, waveOf}
+use Rattle.sine.proofs.Pairs.{sinc-le}
 use Rattle.sine.proofs.Turn.{Near, sin-reduction}
 use Rattle.sine.proofs.Method.{sin-method, odd-le}
 
@@ -37,9 +37,9 @@ round-low b q t R W num den e k bp h₁ h₂ h₃ h₄ =
 abbrev W : ℕ
 W = 2 ^ 63
 
--- 52 units of Q31
+-- 295 units of Q31
 abbrev E : ℕ
-E = 52 * 4294967296
+E = 295 * 4294967296
 
 pub sin-rounding : (q num den : ℕ) (r : Float) → Within 16777216 q W r → q * den ≤ W * num + E * den → W * num ≤ q * den + E * den → num ≤ 2 * den → Beside 1048576 false num den r
 sin-rounding q num den nan w h l b = w
@@ -93,13 +93,16 @@ within-le k q m h = go (eqb (k % 2) 0)
     go true = h
     go false = sub-le q m
 
+square-le : (z : ℕ) → z ≤ quarter31 → z * z / 4294967296 ≤ 4294967296
+square-le z h = div-le-of-le-mul 4294967296 (le-trans (mul-le-mul h h) (lit≤ tt))
+
 pub fix-small : (z : ℕ) → z ≤ quarter31 → sineFix z < 18446744073709551616
-unfolding sineFix sincOf
-fix-small z h = omega (arith, mul-le-mul h (nested-le 4294967296 coefs (z * z / 4294967296)))
+unfolding sineFix
+fix-small z h = omega (arith, mul-le-mul h (sinc-le (z * z / 4294967296) (square-le z h)))
 
 fix-tiny : (z : ℕ) → z ≤ 2 → sineFix z ≤ 8589934593
-unfolding sineFix sincOf
-fix-tiny z h = omega (arith, mul-le-mul h (nested-le 4294967296 coefs (z * z / 4294967296)))
+unfolding sineFix
+fix-tiny z h = omega (arith, mul-le-mul h (sinc-le (z * z / 4294967296) (square-le z (le-trans h (lit≤ tt)))))
 
 pub fix-pos : (z : ℕ) → 0 < sineFix z
 unfolding sineFix

@@ -11,7 +11,7 @@ use lib.Ieee.Fits.{and-l, and-r}
 use lib.Ieee.{Float, nan, inf, fin, up, down}
 use Rattle.series.specs.Near.{Within}
 use Rattle.series.proofs.Algebra.{ac, loosen}
-use Rattle.sine.specs.Series.{nested}
+use Rattle.sine.specs.Series.{paired}
 use Rattle.sine.specs.Exact.{unit, quarter, oddNum, oddDen, sineNum, sincNum, sincDen}
 use Rattle.sine.specs.Sine.{quarter31, sincOf, sineFix, ratioOf}
 use Rattle.sine.proofs.Method.{odd-le}
@@ -32,8 +32,8 @@ join-low : (b B β β' R t c P a r D N num U : ℕ) → 0 < c * P * D → b * (a
 join-low b B β β' R t c P a r D N num U p h k = le-of-mul-le-mul-right {k = c * P * D} (simp ac (omega (arith, simp ac at (mul-le-mul-right (β' * D * num) h), simp ac at (mul-le-mul-right (b * a * t) k)))) p
 
 pub tan-rounding : (q K c P a r D N num U : ℕ) (v : Float) → 0 < K → 0 < c * P * D → Within 16777216 q K v → q * (c * P) ≡ a * r * K
-    → 2147483599 * 67108864 * (r * D * num) ≤ 67108917 * 2147483648 * (P * N * (c * U * D))
-    → 2147483648 * 1073741824 * 67108811 * (P * N * (c * U * D)) ≤ 2147483697 * 1073741825 * 67108864 * (r * D * num)
+    → 2147483356 * 67108864 * (r * D * num) ≤ 67109160 * 2147483648 * (P * N * (c * U * D))
+    → 2147483648 * 1073741824 * 67108568 * (P * N * (c * U * D)) ≤ 2147483940 * 1073741825 * 67108864 * (r * D * num)
     → Within 65536 (a * U * N) num v
 tan-rounding q K c P a r D N num U nan kp p w e h l = w
 tan-rounding q K c P a r D N num U (inf s) kp p w e h l = w
@@ -42,10 +42,10 @@ tan-rounding q K c P a r D N num U (fin s m i) kp p w e h l =
     let t = down i in (
       w .0,
       le-trans (le-of-eq (mul-assoc 65535 (a * U * N) t))
-          (le-trans (loosen (16777215 * (2147483648 * 1073741824 * 67108811)) (16777216 * (2147483697 * 1073741825 * 67108864)) 65535 65536 (a * U * N * t) (R * num) (lit< tt) (lit≤ tt) (join-low 16777215 16777216 (2147483648 * 1073741824 * 67108811) (2147483697 * 1073741825 * 67108864) R t c P a r D N num U p (digits-low 16777215 16777216 R t q K c P a r kp (w .1) e) l))
+          (le-trans (loosen (16777215 * (2147483648 * 1073741824 * 67108568)) (16777216 * (2147483940 * 1073741825 * 67108864)) 65535 65536 (a * U * N * t) (R * num) (lit< tt) (lit≤ tt) (join-low 16777215 16777216 (2147483648 * 1073741824 * 67108568) (2147483940 * 1073741825 * 67108864) R t c P a r D N num U p (digits-low 16777215 16777216 R t q K c P a r kp (w .1) e) l))
           (le-of-eq (sym (mul-assoc 65536 R num)))),
       le-trans (le-of-eq (mul-assoc 65536 R num))
-          (le-trans (loosen (16777216 * (2147483599 * 67108864)) (16777217 * (67108917 * 2147483648)) 65536 65537 (R * num) (a * U * N * t) (lit< tt) (lit≤ tt) (join-high 16777216 16777217 (2147483599 * 67108864) (67108917 * 2147483648) R t c P a r D N num U p (digits-high 16777216 16777217 R t q K c P a r kp (w .2) e) h))
+          (le-trans (loosen (16777216 * (2147483356 * 67108864)) (16777217 * (67109160 * 2147483648)) 65536 65537 (R * num) (a * U * N * t) (lit< tt) (lit≤ tt) (join-high 16777216 16777217 (2147483356 * 67108864) (67109160 * 2147483648) R t c P a r D N num U p (digits-high 16777216 16777217 R t q K c P a r kp (w .2) e) h))
           (le-of-eq (sym (mul-assoc 65537 (a * U * N) t)))),
     )
 
@@ -105,7 +105,7 @@ module _ (a c x : ℕ) (cp : 0 < c) (top : 2 * a ≤ 3 * c) (lo : x * c ≤ a * 
       rw (cosine-is a c first)
       (part (cosFix x) (oddNum (quarter c - a * U) d) (oddDen d) (cos-low x x-le) (cos-below (a * U) (quarter c - a * U) d x (omega arith) x-le (t .0 .0) (t .0 .1) (omega arith) (t .1 .0) (t .1 .1) (omega arith)))
     where
-      part : (h n D : ℕ) → 67108864 ≤ h → h * D ≤ 2147483648 * n + 52 * D → D ≤ 33 * n
+      part : (h n D : ℕ) → 67108864 ≤ h → h * D ≤ 2147483648 * n + 295 * D → D ≤ 33 * n
       part h n D k l = omega (arith, mul-le-mul-right D k)
 
 -- ---- below 2 ^ -24: the cosine is 1 to one part in 2 ^ 18, for each of the few X that there are
@@ -126,7 +126,7 @@ near-one : ℕ → Bool
 near-one x = leb 2147475456 (cosFix x) && leb (cosFix x) 2147491840
 
 all-near : T (every near-one 128)
-unfolding every near-one sineFix sincOf nested
+unfolding every near-one sineFix sincOf paired
 all-near = tt
 
 one-of : (x : ℕ) → x ≤ 128 → (2147475456 ≤ cosFix x) × (cosFix x ≤ 2147491840)
@@ -135,7 +135,7 @@ one-of x h =
     let t = every-says near-one 128 x all-near h in
     (leb→le 2147475456 (cosFix x) (and-l (leb 2147475456 (cosFix x)) (leb (cosFix x) 2147491840) t), leb→le (cosFix x) 2147491840 (and-r (leb 2147475456 (cosFix x)) (leb (cosFix x) 2147491840) t))
 
-own-numbers : (h num den n : ℕ) → 2147475456 ≤ h → h ≤ 2147491840 → h * den ≤ 2147483648 * num + 52 * den → 2147483648 * num ≤ h * den + 53 * den → 6291456 * den ≤ 6291456 * n + den → n ≤ den
+own-numbers : (h num den n : ℕ) → 2147475456 ≤ h → h ≤ 2147491840 → h * den ≤ 2147483648 * num + 295 * den → 2147483648 * num ≤ h * den + 296 * den → 6291456 * den ≤ 6291456 * n + den → n ≤ den
     → (65535 * n ≤ 65536 * num) × (65536 * num ≤ 65537 * n)
 own-numbers h num den n a b k l p q =
     let x = mul-le-mul-right den a in

@@ -8,7 +8,7 @@ use lib.Dec.{T}
 use lib.Ieee.{Float, nan, inf, fin, binary32, up, down, neg, lt, le, toBits}
 use Rattle.series.specs.Near.{Within, Beside}
 use Rattle.fixed.specs.Fixed.{sizeOf, packOf}
-use Rattle.sine.specs.Series.{nested}
+use Rattle.sine.specs.Series.{paired}
 use Rattle.sine.specs.Exact.{turns, within, lower, sineNum, sineDen}
 
 -- ---- how they are computed
@@ -30,14 +30,13 @@ tiny = fin false 1 (negsuc 23)
 abbrev pub upTo : Float → Float → Bool
 upTo b x = le (fin false 0 (pos 0)) x && le x b
 
--- 4 ^ j / (2 j + 1)! in Q32, to the nearest
+-- 4 ^ j / (2 j + 1)! in Q32, to the nearest; the last is less, for the next term, which is left out
 abbrev pub coefs : List ℕ
-coefs = 4294967296 ∷ 2863311531 ∷ 572662306 ∷ 54539267 ∷ 3029959 ∷ 110180 ∷ 2825 ∷ []
+coefs = 4294967296 ∷ 2863311531 ∷ 572662306 ∷ 54539267 ∷ 3029959 ∷ 108525 ∷ []
 
--- sin z / z in Q32, for z² / 4 in Q32
+-- sin z / z in Q32, for v = z² / 4 in Q32
 unfoldable pub sincOf : ℕ → ℕ
-unfolding nested
-sincOf v = nested (2 ^ 32) coefs v
+sincOf v = paired (2 ^ 32) coefs v (v * v / 2 ^ 32)
 
 -- a quarter turn in Q31, cut
 abbrev pub quarter31 : ℕ

@@ -10,25 +10,24 @@ ghost use Rattle.sine.specs.Sine.{eight, little, upTo, sincOf, sineFix, 
 use fixed::pack;
 use fixed::size;
 
-// b - y v in Q32.
-fn step(b: u64, y: u64, v: u64) -> u64
-    requires { ⌜ (y ≤ b) × (b ≤ 4294967296) × (v < 4294967296) ⌝ }
-    ensures { λ r. ⌜ (r ≡ b - y * v / 4294967296) × (r ≤ b) ⌝ }
+// b - c v in Q32.
+fn step(b: u64, c: u64, v: u64) -> u64
+    requires { ⌜ (c ≤ b) × (b ≤ 4294967296) × (v < 4294967296) ⌝ }
+    ensures { λ r. ⌜ (r ≡ b - c * v / 4294967296) × (r ≤ b) ⌝ }
 {
-    b - y * v / 4294967296
+    b - c * v / 4294967296
 }
 
-// sin z / z in Q32, for v = z^2 / 4 in Q32.
+// sin z / z in Q32, for v = z^2 / 4 in Q32: by pairs of terms, which do not wait for each other.
 fn sinc(v: u64) -> u64
     requires { ⌜ v < 4294967296 ⌝ }
     ensures { λ r. ⌜ (r ≡ sincOf v) × (r ≤ 4294967296) ⌝ }
 {
-    let y5 = step(110180, 2825, v); // Q32
-    let y4 = step(3029959, y5, v); // Q32
-    let y3 = step(54539267, y4, v); // Q32
-    let y2 = step(572662306, y3, v); // Q32
-    let y1 = step(2863311531, y2, v); // Q32
-    step(4294967296, y1, v)
+    let w = v * v / 4294967296; // Q32
+    let a = step(4294967296, 2863311531, v);
+    let b = step(572662306, 54539267, v);
+    let c = step(3029959, 108525, v);
+    a + (b + c * w / 4294967296) * w / 4294967296
 }
 
 // The sine of the angle z in Q31, up to a quarter turn, in Q63, and 1 more, so that it is not 0.
@@ -55,8 +54,9 @@ fn wave(x: u64, j: u64) -> f32
     requires { ⌜ j ≤ 1 ⌝ }
     ensures { λ r. ⌜ r ≡ waveOf j x ⌝ }
 {
-    let k = x / 3373259426 + j;
-    let z = within(k, x % 3373259426); // Q31
+    let n = x / 3373259426;
+    let k = n + j;
+    let z = within(k, x - n * 3373259426); // Q31
     let q = sine_fix(z); // Q63
     let r = pack(q, 63);
     let sign = (k % 4 / 2) as u32;
@@ -79,11 +79,11 @@ pub fn sin(x: f32) -> f32
     ensures is { λ r. ⌜ r ≡ sinOf x ⌝ }
     ensures near { λ r. ⌜ Sine 0 x r ⌝ }
 {
-    if (x >= 0.0) & (x <= 8.0) {
-        if x < 0.0009765625 {
-            return x;
-        }
+    if (x >= 0.0009765625) & (x <= 8.0) {
         return wave(angle(x), 0);
+    }
+    if (x >= 0.0) & (x < 0.0009765625) {
+        return x;
     }
     0.0 / 0.0
 }
@@ -94,10 +94,7 @@ pub fn cos(x: f32) -> f32
     ensures near { λ r. ⌜ Sine 1 x r ⌝ }
 {
     if (x >= 0.0) & (x <= 8.0) {
-        if x < 0.0009765625 {
-            return wave(size(x) / 2, 1);
-        }
-        return wave(angle(x), 1);
+        return wave(size(x) / 2, 1);
     }
     0.0 / 0.0
 }

@@ -3,7 +3,7 @@ use mathlib.Core.Path.{_≡_, _∙_, sym, ap, subst}
 use Prim.Native.Nat.{ℕ, _/_}
 use borrow.Author.Needs.{needs}
 use lib.Ieee.{Float, ofBits, div}
-use Rattle.fixed.proofs.Order.{on, off}
+use Rattle.fixed.proofs.Order.{on}
 use Rattle.sine.specs.Sine.{waveOf, cosOf, Sine}
 use Rattle.sine.proofs.Cases.{up-small, cos-near}
 use Rattle.sine.proofs.cos.Statement.{statement}
@@ -14,7 +14,7 @@ both x r e = (e, subst (Sine 1 x) (sym e) (cos-near x))
 
 size-requires : tie.Need-size-requires
 unfolding ofBits
-size-requires c κs = up-small (c .before .before .args .x) (on (c .before .if1 .taken))
+size-requires c κs = up-small (c .before .args .x) (on (c .if1 .taken))
 
 wave-requires : tie.Need-wave-requires
 wave-requires c κs = search needs
@@ -22,34 +22,12 @@ wave-requires c κs = search needs
 returns : tie.Need-returns
 unfolding cosOf ofBits
 returns c =
-    both (c .before .before .before .before .args .x) (c .wave .result)
-    (rw (c .before .before .before .if1 .taken) (c .wave .ensures ∙ ap (λ (n : ℕ). waveOf 1 (n / 2)) (c .before .size .ensures)))
-
-angle-requires : tie.Need-angle-requires
-unfolding ofBits
-angle-requires c κs = (on (c .before .if1 .taken), off (c .if2 .left))
-
-wave-requires-2 : tie.Need-wave-requires-2
-wave-requires-2 c κs = search needs
+    both (c .before .before .before .args .x) (c .wave .result)
+    (rw (c .before .before .if1 .taken) (c .wave .ensures ∙ ap (λ (n : ℕ). waveOf 1 (n / 2)) (c .before .size .ensures)))
 
 returns-2 : tie.Need-returns-2
-unfolding cosOf ofBits
-returns-2 c =
-    both (c .before .before .before .before .args .x) (c .wave2 .result)
-    (rw (c .before .before .before .if1 .taken) (c .wave2 .ensures ∙ ap (waveOf 1) (c .before .angle .ensures)))
-
-returns-3 : tie.Need-returns-3
 unfolding cosOf ofBits div
-returns-3 c = both (c .before .args .x) _ (rw (c .if1 .left))
+returns-2 c = both (c .before .args .x) _ (rw (c .if1 .left))
 
 pub cos-spec : {M : Type 1} → statement M
-cos-spec =
-    tie.close
-    (tie.spec
-    size-requires
-    wave-requires
-    returns
-    angle-requires
-    wave-requires-2
-    returns-2
-    returns-3)
+cos-spec = tie.close (tie.spec size-requires wave-requires returns returns-2)

@@ -1,4 +1,4 @@
--- `sine::step` meets its contract: the product is at most y, so nothing wraps. Assumes nothing.
+-- `sine::step` meets its contract: the product is at most c, so nothing wraps. Assumes nothing.
 use Prim.Native.Nat.{_*_, _≤_}
 use native.Mathlib.Nat.{mul-le-mul-left}
 use native.Mathlib.Omega.{arith}
@@ -6,8 +6,8 @@ use borrow.Author.Needs.{needs}
 use Rattle.sine.proofs.step.Statement.{statement}
 use Rattle.sine.proofs.step.Tie as tie
 
-product : (c : tie.Start) → c .args .y * c .args .v ≤ c .args .y * 4294967295
-product c = mul-le-mul-left (c .args .y) (omega arith)
+product : (c : tie.Start) → c .args .c * c .args .v ≤ c .args .c * 4294967295
+product c = mul-le-mul-left (c .args .c) (omega arith)
 
 mul-result : tie.Need-mul-result
 mul-result c = omega (arith, product c)

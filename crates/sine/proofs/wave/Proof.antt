@@ -1,6 +1,6 @@
 -- `sine::wave` meets its contract: its steps are those of `waveOf`, and the sign is put into the pattern. Assumes nothing.
 use mathlib.Core.Path.{_≡_, _∙_, sym, ap, subst}
-use Prim.Native.Nat.{ℕ, _+_, _/_, _%_, _^_}
+use Prim.Native.Nat.{ℕ, _+_, _-_, _*_, _/_, _%_, _^_}
 use native.Mathlib.Omega.{arith}
 use borrow.Author.Needs.{needs}
 use lib.Dec.{T}
@@ -14,6 +14,12 @@ use Rattle.sine.proofs.wave.Tie as tie
 
 add-k : tie.Need-add-k
 add-k c = search needs
+
+mul-within : tie.Need-mul-within
+mul-within c = search needs
+
+sub-within : tie.Need-sub-within
+sub-within c = search needs
 
 within-requires : tie.Need-within-requires
 within-requires c κs = search needs
@@ -30,9 +36,13 @@ cast-sign c = search needs
 quarters : (c : tie.After-pack) → ℕ
 quarters c = c .before .before .before .args .x / quarter31 + c .before .before .before .args .j
 
+-- what whole quarter turns leave
+left : (x : ℕ) → x - x / quarter31 * quarter31 ≡ x % quarter31
+left x = omega arith
+
 size-of : (c : tie.After-pack) → c .pack .result ≡ packOf (sineFix (within (quarters c) quarter31 (c .before .before .before .args .x % quarter31))) 63
 unfolding quarters
-size-of c = c .pack .ensures .0 ∙ ap (λ (q : ℕ). packOf q 63) (c .before .sine-fix .ensures .0 ∙ ap sineFix (c .before .before .within .ensures .0))
+size-of c = c .pack .ensures .0 ∙ ap (λ (q : ℕ). packOf q 63) (c .before .sine-fix .ensures .0 ∙ ap sineFix (c .before .before .within .ensures .0 ∙ ap (within (quarters c) quarter31) (left (c .before .before .before .args .x))))
 
 known : (c : tie.After-pack) → Turned (quarters c) (c .pack .result)
 known c = turned (quarters c) 16777216 (c .before .sine-fix .result) (2 ^ 63) (c .pack .result) (subst (λ (v : Float). T (fits binary32 v)) (sym (c .pack .ensures .0)) (pack-fits (c .before .sine-fix .result) 63)) (c .pack .ensures .1)
@@ -60,6 +70,8 @@ wave-spec =
     tie.close
     (tie.spec
     add-k
+    mul-within
+    sub-within
     within-requires
     sine-fix-requires
     pack-requires

@@ -3,6 +3,7 @@
 //!
 //!     --recordings N    how many (default 100000)
 //!     --seed S          seed of the generated recordings (default 1)
+//!     --time FILE       plays FILE twenty times with each instead, and tells steps a second
 //!     --program WORD..  the program with its loader; the last option
 
 #[path = "../target/oracle/mod.rs"]
@@ -259,17 +260,39 @@ fn watch() {
     });
 }
 
+/// Steps a second of both on one recording, the best of twenty.
+fn time(program: &[String], file: &str) {
+    let b = std::fs::read(file).expect("the recording");
+    let (text, _, steps) = expected(&b);
+    let (mut ours, mut theirs) = (Duration::MAX, Duration::MAX);
+    for _ in 0..20 {
+        let from = Instant::now();
+        let out = written(program, &b);
+        ours = ours.min(from.elapsed());
+        assert!(out.as_deref() == Ok(text.as_bytes()), "the answers differ");
+        let from = Instant::now();
+        expected(&b);
+        theirs = theirs.min(from.elapsed());
+    }
+    let rate = |t: Duration| steps as f64 / t.as_secs_f64();
+    println!("{steps} steps: the program {:.0} steps a second with its start, the Rust {:.0}", rate(ours), rate(theirs));
+}
+
 fn main() {
-    let (mut count, mut seed, mut program) = (100_000, 1, Vec::new());
+    let (mut count, mut seed, mut program, mut timed) = (100_000, 1, Vec::new(), None);
     let mut words = std::env::args().skip(1);
     while let Some(word) = words.next() {
         let mut number = || words.next().and_then(|v| v.parse::<u64>().ok()).expect("a number is missing");
         match word.as_str() {
             "--recordings" => count = number(),
             "--seed" => seed = number(),
+            "--time" => timed = words.next(),
             "--program" => program = words.by_ref().collect(),
-            _ => panic!("options: --recordings N --seed S --program WORD.."),
+            _ => panic!("options: --recordings N --seed S | --time FILE, --program WORD.."),
         }
+    }
+    if let Some(file) = timed {
+        return time(&program, &file);
     }
     let mut rng = Rng::new(seed);
     let pool = bodies(&mut rng);

@@ -1,5 +1,5 @@
 -- Numbers as ASCII text. Definitions only.
-use Prim.Native.Nat.{ℕ, zero, suc, _+_, _/_, _%_}
+use Prim.Native.Nat.{ℕ, zero, suc, _+_, _-_, _*_, _/_, _%_}
 use mathlib.Core.Bool.{cond}
 use mathlib.Core.List.{List, [], _∷_, _++_}
 use lib.Dec.{ltb}
@@ -13,6 +13,11 @@ digitsOf (suc k) n = cond (ltb n 10) ((48 + n) ∷ []) (digitsOf k (n / 10) ++ (
 -- a number of 32 bits has ten at most
 abbrev pub decimalOf : ℕ → List ℕ
 decimalOf n = digitsOf 10 n
+
+-- the number that decimal digits read, after a number n
+unfoldable pub readOf : ℕ → List ℕ → ℕ
+readOf n [] = n
+readOf n (d ∷ ds) = readOf (n * 10 + (d - 48)) ds
 
 unfoldable pub glyph : ℕ → ℕ
 glyph d = cond (ltb d 10) (48 + d) (87 + d)

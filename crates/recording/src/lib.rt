@@ -78,7 +78,8 @@ fn letters_ok(rec: &[u8]) -> bool
     (rec[0] == b'R') & (rec[1] == b'V') & (rec[2] == b'B') & (rec[3] == b'R')
 }
 
-fn opening_ok(rec: &[u8]) -> bool
+// Whether the opening is good.
+pub fn opening_ok(rec: &[u8]) -> bool
     ensures { λ r. ⌜ r ≡ openingOk (now (rec .entry)) ⌝ }
 {
     if rec.len() < 20 {

@@ -1,0 +1,4 @@
+// Plays a recording with refused steps among accepted ones.
+fn main() {
+    player::run(false);
+}

@@ -10,17 +10,15 @@ sample-requires c κs = search needs
 sample-requires-2 : tie.Need-sample-requires-2
 sample-requires-2 c κs = search needs
 
-element-write-next : tie.Need-element-write-next
-element-write-next c = search needs
+array-write-src : tie.Need-array-write-src
+array-write-src c = search needs
 
-element-write-next-2 : tie.Need-element-write-next-2
-element-write-next-2 c = search needs
+array-write-src-2 : tie.Need-array-write-src-2
+array-write-src-2 c = search needs
 
 returns : tie.Need-returns
 unfolding metalOf
-returns c = rw (← c .before .before .before .before .before .before .sample .ensures, ← c .before .before .before .sample2 .ensures)
+returns c = rw (← c .before .before .before .before .before .before .before .before .before .sample .ensures, ← c .before .before .before .before .before .before .sample2 .ensures)
 
 pub metal-spec : {M : Type 1} → statement M
-metal-spec =
-    tie.close
-    (tie.spec sample-requires sample-requires-2 element-write-next element-write-next-2 returns)
+metal-spec = tie.close (tie.spec sample-requires sample-requires-2 array-write-src array-write-src-2 returns)

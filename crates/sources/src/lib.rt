@@ -8,7 +8,7 @@ ghost use mathlib.Core.Path.{_≡_};
 ghost use Prim.Native.Nat.{_≤_, _<_};
 ghost use lib.ListN.{length, getD};
 ghost use lib.IntN.{pos};
-ghost use Rattle.sources.specs.Sources.{dualsOf, tomsOf, metalOf, soundOf};
+ghost use Rattle.sources.specs.Sources.{soundOf};
 
 // The sources as far as the step has gone, and the samples of the voices that have sounded.
 pub struct Sources {
@@ -20,14 +20,22 @@ pub struct Sources {
     pub src: [f32; 8],
 }
 
-// The three dual voices.
-fn duals(s: Sources, f: &[u8]) -> Sources
-    requires { ⌜ 664 ≤ length (now f) ⌝ }
-    ensures { λ r. ⌜ r ≡ dualsOf (now (f .entry)) s ⌝ }
+// DAC word i.
+fn dac_at(dac: &[i32], i: usize) -> i32
+    requires { ⌜ i < length (now dac) ⌝ }
+    ensures { λ r. ⌜ r ≡ getD (now (dac .entry)) i (pos 0) ⌝ }
 {
-    let mut duals = s.duals;
+    dac[i]
+}
+
+// All eight: the dual voices, the toms, the cymbal (voice 6), the hat (voice 4).
+pub fn sound(s: Sources, f: &[u8], dac: &[i32]) -> Sources
+    requires { ⌜ (664 ≤ length (now f)) × (16 ≤ length (now dac)) ⌝ }
+    ensures { λ r. ⌜ r ≡ soundOf (now (f .entry)) (now (dac .entry)) s ⌝ }
+{
     let mut w = s.w;
     let mut src = s.src;
+    let mut duals = s.duals;
     let mut d: usize = 0;
     while d < 3 {
         let spec = frame::dual_spec(d);
@@ -41,35 +49,7 @@ fn duals(s: Sources, f: &[u8]) -> Sources
         src[v] = y;
         d += 1;
     }
-    let hat = s.hat;
-    let toms = s.toms;
-    let cym = s.cym;
-    Sources {
-        duals,
-        hat,
-        toms,
-        cym,
-        w,
-        src,
-    }
-}
-
-// DAC word i.
-fn dac_at(dac: &[i32], i: usize) -> i32
-    requires { ⌜ i < length (now dac) ⌝ }
-    ensures { λ r. ⌜ r ≡ getD (now (dac .entry)) i (pos 0) ⌝ }
-{
-    dac[i]
-}
-
-// The three toms, each with its exciter's DAC word.
-fn toms(s: Sources, f: &[u8], dac: &[i32]) -> Sources
-    requires { ⌜ (664 ≤ length (now f)) × (16 ≤ length (now dac)) ⌝ }
-    ensures { λ r. ⌜ r ≡ tomsOf (now (f .entry)) (now (dac .entry)) s ⌝ }
-{
     let mut toms = s.toms;
-    let mut w = s.w;
-    let mut src = s.src;
     let mut t: usize = 0;
     while t < 3 {
         let spec = frame::tom_spec(t);
@@ -84,26 +64,7 @@ fn toms(s: Sources, f: &[u8], dac: &[i32]) -> Sources
         src[v] = y;
         t += 1;
     }
-    let duals = s.duals;
-    let hat = s.hat;
-    let cym = s.cym;
-    Sources {
-        duals,
-        hat,
-        toms,
-        cym,
-        w,
-        src,
-    }
-}
-
-// The cymbal, voice 6, then the hat, voice 4.
-fn metal(s: Sources, f: &[u8]) -> Sources
-    requires { ⌜ 664 ≤ length (now f) ⌝ }
-    ensures { λ r. ⌜ r ≡ metalOf (now (f .entry)) s ⌝ }
-{
     let c = s.cym;
-    let w = s.w;
     let o = c.sample(f, w);
     let h = s.hat;
     let drawn = o.w;
@@ -111,13 +72,10 @@ fn metal(s: Sources, f: &[u8]) -> Sources
     let cym = o.cym;
     let hat = p.hat;
     let last = p.w;
-    let mut src = s.src;
     let y = o.y;
     let z = p.y;
     src[6] = y;
     src[4] = z;
-    let duals = s.duals;
-    let toms = s.toms;
     Sources {
         duals,
         hat,
@@ -126,14 +84,4 @@ fn metal(s: Sources, f: &[u8]) -> Sources
         w: last,
         src,
     }
-}
-
-// All eight.
-pub fn sound(s: Sources, f: &[u8], dac: &[i32]) -> Sources
-    requires { ⌜ (664 ≤ length (now f)) × (16 ≤ length (now dac)) ⌝ }
-    ensures { λ r. ⌜ r ≡ soundOf (now (f .entry)) (now (dac .entry)) s ⌝ }
-{
-    let d = duals(s, f);
-    let t = toms(d, f, dac);
-    metal(t, f)
 }

@@ -6,8 +6,9 @@ use tom::Tom;
 use wobble::Wobble;
 ghost use mathlib.Core.Path.{_≡_};
 ghost use Prim.Native.Nat.{_≤_, _<_};
-ghost use lib.ListN.{length, getD};
+ghost use lib.ListN.{length, getD, replicate};
 ghost use lib.IntN.{pos};
+ghost use Rattle.float.specs.Consts.{k0};
 ghost use Rattle.sources.specs.Sources.{soundOf};
 
 // The sources as far as the step has gone, and the samples of the voices that have sounded.
@@ -29,13 +30,21 @@ fn dac_at(dac: &[i32], i: usize) -> i32
 }
 
 // All eight: the dual voices, the toms, the cymbal (voice 6), the hat (voice 4).
-pub fn sound(s: Sources, f: &[u8], dac: &[i32]) -> Sources
+pub fn sound(
+    duals: [DualOsc; 3],
+    hat: Hat,
+    toms: [Tom; 3],
+    cym: Cym,
+    w: Wobble,
+    f: &[u8],
+    dac: &[i32],
+) -> Sources
     requires { ⌜ (664 ≤ length (now f)) × (16 ≤ length (now dac)) ⌝ }
-    ensures { λ r. ⌜ r ≡ soundOf (now (f .entry)) (now (dac .entry)) s ⌝ }
+    ensures { λ r. ⌜ r ≡ soundOf (now (f .entry)) (now (dac .entry)) (record { duals = duals; hat = hat; toms = toms; cym = cym; w = w; src = replicate 8 k0 }) ⌝ }
 {
-    let mut w = s.w;
-    let mut src = s.src;
-    let mut duals = s.duals;
+    let mut duals = duals;
+    let mut w = w;
+    let mut src: [f32; 8] = [0.0; 8];
     let mut d: usize = 0;
     while d < 3 {
         let spec = frame::dual_spec(d);
@@ -49,7 +58,7 @@ pub fn sound(s: Sources, f: &[u8], dac: &[i32]) -> Sources
         src[v] = y;
         d += 1;
     }
-    let mut toms = s.toms;
+    let mut toms = toms;
     let mut t: usize = 0;
     while t < 3 {
         let spec = frame::tom_spec(t);
@@ -64,11 +73,9 @@ pub fn sound(s: Sources, f: &[u8], dac: &[i32]) -> Sources
         src[v] = y;
         t += 1;
     }
-    let c = s.cym;
-    let o = c.sample(f, w);
-    let h = s.hat;
+    let o = cym.sample(f, w);
     let drawn = o.w;
-    let p = h.sample(f, drawn);
+    let p = hat.sample(f, drawn);
     let cym = o.cym;
     let hat = p.hat;
     let last = p.w;

@@ -1,11 +1,9 @@
 -- `board::stepped` meets its contract: each part by its own contract. Assumes nothing.
-use Rattle.board.specs.Board.{steppedOf}
+use native.Mathlib.Omega.{arith}
+use Rattle.board.specs.Board.{takenOf, steppedOf}
 use borrow.Author.Needs.{needs}
 use Rattle.board.proofs.stepped.Statement.{statement}
 use Rattle.board.proofs.stepped.Tie as tie
-
-taken-requires : tie.Need-taken-requires
-taken-requires c κs = search needs
 
 sound-requires : tie.Need-sound-requires
 sound-requires c κs = search needs
@@ -17,23 +15,14 @@ master-requires : tie.Need-master-requires
 master-requires c κs = search needs
 
 process-requires : tie.Need-process-requires
-process-requires c κs = search needs
+process-requires c κs = omega (arith, c .before .before .before .before .before .before .before .before .before .before .before .before .before .before .before .pre .2)
 
 words-requires : tie.Need-words-requires
 words-requires c κs = search needs
 
 returns : tie.Need-returns
-unfolding steppedOf
-returns c = rw (← c .before .before .before .before .before .before .before .before .before .before .before .before .before .before .before .before .before .before .taken .ensures, ← c .before .before .before .before .before .before .before .before .before .before .before .before .before .before .before .before .before .sound .ensures, ← c .before .before .before .before .before .before .before .before .before .before .before .before .before .before .before .voices .ensures, ← c .before .before .before .before .before .before .before .before .before .before .before .before .master .ensures, ← c .before .before .before .before .before .before .before .before .before .before .before .process .ensures, ← c .before .before .before .before .before .before .before .words .ensures)
+unfolding steppedOf takenOf
+returns c = rw (← c .before .before .before .before .before .before .before .before .before .before .before .before .before .before .before .before .before .before .before .sound .ensures, ← c .before .before .before .before .before .before .before .before .before .before .before .before .before .before .before .before .voices .ensures, ← c .before .before .before .before .before .before .before .before .before .before .before .before .before .master .ensures, ← c .before .before .before .before .before .before .before .before .before .before .before .process .ensures, ← c .before .before .before .before .before .before .before .words .ensures)
 
 pub stepped-spec : {M : Type 1} → statement M
-stepped-spec =
-    tie.close
-    (tie.spec
-    taken-requires
-    sound-requires
-    voices-requires
-    master-requires
-    process-requires
-    words-requires
-    returns)
+stepped-spec = tie.close (tie.spec sound-requires voices-requires master-requires process-requires words-requires returns)

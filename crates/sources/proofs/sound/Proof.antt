@@ -15,20 +15,20 @@ use Rattle.sources.proofs.sound.Statement.{statement}
 use Rattle.sources.proofs.sound.Tie as tie
 
 abbrev Inv-loop : tie.InvT-loop
-Inv-loop s f dac w₀ src₀ duals₀ d₀ w src duals d =
-    let now : Sources = record { duals = duals; hat = s .hat; toms = s .toms; cym = s .cym; w = w; src = src } in
-    (d ≤ 3) × (now ≡ turnsOf d (dualTurn f) (record { duals = duals₀; hat = s .hat; toms = s .toms; cym = s .cym; w = w₀; src = src₀ }))
+Inv-loop hat toms cym f dac duals₀ w₀ src₀ d₀ duals w src d =
+    let now : Sources = record { duals = duals; hat = hat; toms = toms; cym = cym; w = w; src = src } in
+    (d ≤ 3) × (now ≡ turnsOf d (dualTurn f) (record { duals = duals₀; hat = hat; toms = toms; cym = cym; w = w₀; src = src₀ }))
 
 abbrev μ-loop : tie.MeasureT-loop
-μ-loop s f dac w₀ src₀ duals₀ d₀ w src duals d = 3 - d
+μ-loop hat toms cym f dac duals₀ w₀ src₀ d₀ duals w src d = 3 - d
 
 abbrev Inv-loop2 : tie.InvT-loop2
-Inv-loop2 s f dac w₀ src₀ duals d toms₀ t₀ w src toms t =
-    let now : Sources = record { duals = duals; hat = s .hat; toms = toms; cym = s .cym; w = w; src = src } in
-    (t ≤ 3) × (now ≡ turnsOf t (tomTurn f dac) (record { duals = duals; hat = s .hat; toms = toms₀; cym = s .cym; w = w₀; src = src₀ }))
+Inv-loop2 hat cym f dac duals w₀ src₀ d toms₀ t₀ w src toms t =
+    let now : Sources = record { duals = duals; hat = hat; toms = toms; cym = cym; w = w; src = src } in
+    (t ≤ 3) × (now ≡ turnsOf t (tomTurn f dac) (record { duals = duals; hat = hat; toms = toms₀; cym = cym; w = w₀; src = src₀ }))
 
 abbrev μ-loop2 : tie.MeasureT-loop2
-μ-loop2 s f dac w₀ src₀ duals d toms₀ t₀ w src toms t = 3 - t
+μ-loop2 hat cym f dac duals w₀ src₀ d toms₀ t₀ w src toms t = 3 - t
 
 loop-holds : tie.Need-loop-holds Inv-loop μ-loop Inv-loop2 μ-loop2
 unfolding turnsOf
@@ -124,9 +124,9 @@ array-write-src-4 c = search needs
 returns : tie.Need-returns Inv-loop μ-loop Inv-loop2 μ-loop2
 unfolding soundOf metalOf tomsOf dualsOf
 returns c =
-    let d : c .before .before .before .before .before .before .before .before .before .before .before .before .loop .d ≡ 3 = omega arith in
-    let t : c .before .before .before .before .before .before .before .before .before .loop2 .t ≡ 3 = omega arith in
-    rw (← (rw d at (c .before .before .before .before .before .before .before .before .before .before .before .before .loop .inv .1)), ← (rw t at (c .before .before .before .before .before .before .before .before .before .loop2 .inv .1)), ← c .before .before .before .before .before .before .sample3 .ensures, ← c .before .before .before .sample4 .ensures)
+    let d : c .before .before .before .before .before .before .before .before .before .loop .d ≡ 3 = omega arith in
+    let t : c .before .before .before .before .before .before .before .loop2 .t ≡ 3 = omega arith in
+    rw (← (rw d at (c .before .before .before .before .before .before .before .before .before .loop .inv .1)), ← (rw t at (c .before .before .before .before .before .before .before .loop2 .inv .1)), ← c .before .before .before .before .before .sample3 .ensures, ← c .before .before .before .sample4 .ensures)
 
 pub sound-spec : {M : Type 1} → statement M
 sound-spec = tie.close (tie.spec Inv-loop μ-loop Inv-loop2 μ-loop2 loop-holds dual-spec-requires mul-e array-copy-out-e sample-requires mul-duals array-set-from-duals mul-src array-write-src add-d loop-less loop-again loop2-holds tom-spec-requires dac-at-requires mul-e-2 array-copy-out-e-2 sample-requires-2 mul-toms array-set-from-toms mul-src-2 array-write-src-2 add-t loop2-less loop2-again sample-requires-3 sample-requires-4 array-write-src-3 array-write-src-4 returns)

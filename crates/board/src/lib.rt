@@ -5,14 +5,13 @@ use comp::Mix;
 use cym::Cym;
 use dual::DualOsc;
 use hat::Hat;
-use sources::Sources;
 use tom::Tom;
 use wobble::Wobble;
 ghost use mathlib.Core.Path.{_≡_};
 ghost use mathlib.Core.Bool.{Bool};
 ghost use Prim.Native.Nat.{_≤_, _<_};
 ghost use lib.ListN.{length};
-ghost use Rattle.board.specs.Board.{numberOf, inRange, allInRange, inputOk, inputsOk, wordsOf, takenOf, refusedOf, steppedOf, answerOf};
+ghost use Rattle.board.specs.Board.{numberOf, inRange, allInRange, inputOk, inputsOk, wordsOf, refusedOf, answerOf};
 
 #[repr(C)]
 pub struct Analog {
@@ -129,66 +128,6 @@ fn words(rx: [i32; 12], audio: Mix, mix: Mix) -> [i32; 12]
     next
 }
 
-// The board's sources, before any has sounded.
-fn taken(board: Analog) -> Sources
-    ensures { λ r. ⌜ r ≡ takenOf board ⌝ }
-{
-    let duals = board.duals;
-    let hat = board.hat;
-    let toms = board.toms;
-    let cym = board.cym;
-    let w = board.wobble;
-    Sources {
-        duals,
-        hat,
-        toms,
-        cym,
-        w,
-        src: [0.0; 8],
-    }
-}
-
-fn stepped(board: Analog, f: &[u8], dac: &[i32], fx: &[u8], x: Inputs) -> Answer
-    requires { ⌜ (664 ≤ length (now f)) × (16 ≤ length (now dac)) × (24 ≤ length (now fx)) ⌝ }
-    ensures { λ r. ⌜ r ≡ steppedOf board (now (f .entry)) (now (dac .entry)) (now (fx .entry)) x ⌝ }
-{
-    let c = board.chains;
-    let k = board.comp;
-    let s = sources::sound(taken(board), f, dac);
-    let src = s.src;
-    let b = bus::voices(c, f, dac, src);
-    let was = b.mix;
-    let ext = x.ext;
-    let m = bus::master(f, dac, was, ext);
-    let o = k.process(fx, m.l, m.r);
-    let mix = o.mix;
-    let voices = b.rx;
-    let audio = x.audio;
-    let rx = words(voices, audio, mix);
-    let duals = s.duals;
-    let hat = s.hat;
-    let toms = s.toms;
-    let cym = s.cym;
-    let chains = b.chains;
-    let comp = o.comp;
-    let wobble = s.w;
-    let outcome = Outcome::Done;
-    Answer {
-        outcome,
-        rx,
-        mix,
-        board: Analog {
-            duals,
-            hat,
-            toms,
-            cym,
-            chains,
-            comp,
-            wobble,
-        },
-    }
-}
-
 // One sample, or the lowest refusal that applies.
 pub fn step(board: Analog, f: &[u8], dac: &[i32], fx: &[u8], x: Inputs) -> Answer
     ensures { λ r. ⌜ r ≡ answerOf board (now (f .entry)) (now (dac .entry)) (now (fx .entry)) x ⌝ }
@@ -204,7 +143,46 @@ pub fn step(board: Analog, f: &[u8], dac: &[i32], fx: &[u8], x: Inputs) -> Answe
     }
     if all_in_range(dac) {
         if inputs_ok(x) {
-            return stepped(board, f, dac, fx, x);
+            let duals = board.duals;
+            let hat = board.hat;
+            let toms = board.toms;
+            let cym = board.cym;
+            let w = board.wobble;
+            let s = sources::sound(duals, hat, toms, cym, w, f, dac);
+            let src = s.src;
+            let c = board.chains;
+            let b = bus::voices(c, f, dac, src);
+            let was = b.mix;
+            let ext = x.ext;
+            let m = bus::master(f, dac, was, ext);
+            let k = board.comp;
+            let o = k.process(fx, m.l, m.r);
+            let mix = o.mix;
+            let voices = b.rx;
+            let audio = x.audio;
+            let rx = words(voices, audio, mix);
+            let duals = s.duals;
+            let hat = s.hat;
+            let toms = s.toms;
+            let cym = s.cym;
+            let chains = b.chains;
+            let comp = o.comp;
+            let wobble = s.w;
+            let outcome = Outcome::Done;
+            return Answer {
+                outcome,
+                rx,
+                mix,
+                board: Analog {
+                    duals,
+                    hat,
+                    toms,
+                    cym,
+                    chains,
+                    comp,
+                    wobble,
+                },
+            };
         }
         return refused(board, Outcome::InputRange);
     }

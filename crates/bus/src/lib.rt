@@ -6,7 +6,7 @@ ghost use mathlib.Core.Bool.{Bool};
 ghost use Prim.Native.Nat.{_≤_, _<_};
 ghost use lib.ListN.{length, getD};
 ghost use lib.IntN.{pos};
-ghost use Rattle.bus.specs.Bus.{dacF, returnOf, contributionOf, addedOf, turnOf, voicesOf, distortOf, masterOf};
+ghost use Rattle.bus.specs.Bus.{dacF, returnOf, contributionOf, addedOf, voicesOf, distortOf, masterOf};
 
 // DAC word i / 2^23.
 fn dac_f32(dac: &[i32], i: usize) -> f32
@@ -53,41 +53,27 @@ pub struct Bus {
     pub mix: Mix,
 }
 
-// Voice v: its source and its DAC word through its chain.
-fn turn(b: Bus, f: &[u8], dac: &[i32], src: [f32; 8], v: usize) -> Bus
-    requires { ⌜ (664 ≤ length (now f)) × (16 ≤ length (now dac)) × (v < 8) ⌝ }
-    ensures { λ r. ⌜ r ≡ turnOf (now (f .entry)) (now (dac .entry)) src v b ⌝ }
-{
-    let x = src[v] + dac_f32(dac, v) * 0.5;
-    let mut next = b;
-    let c = next.chains[v];
-    let o = c.process(f, v, x);
-    let chain = o.chain;
-    next.chains[v] = chain;
-    let w = float::to24(o.y * 0.5);
-    next.rx[v] = w;
-    let was = next.mix;
-    let m = added(f, v, was, o.y);
-    next.mix = m;
-    next
-}
-
-// Voices 0 to 7 in turn.
+// Voices 0 to 7 in turn: each one's source and its DAC word through its chain.
 pub fn voices(chains: [Chain; 8], f: &[u8], dac: &[i32], src: [f32; 8]) -> Bus
     requires { ⌜ (664 ≤ length (now f)) × (16 ≤ length (now dac)) ⌝ }
     ensures { λ r. ⌜ r ≡ voicesOf (now (f .entry)) (now (dac .entry)) src chains ⌝ }
 {
-    let mut b = Bus {
-        chains,
-        rx: [0; 12],
-        mix: Mix { l: 0.0, r: 0.0 },
-    };
+    let mut chains = chains;
+    let mut rx: [i32; 12] = [0; 12];
+    let mut mix = Mix { l: 0.0, r: 0.0 };
     let mut v: usize = 0;
     while v < 8 {
-        b = turn(b, f, dac, src, v);
+        let x = src[v] + dac_f32(dac, v) * 0.5;
+        let c = chains[v];
+        let o = c.process(f, v, x);
+        let chain = o.chain;
+        chains[v] = chain;
+        let w = float::to24(o.y * 0.5);
+        rx[v] = w;
+        mix = added(f, v, mix, o.y);
         v += 1;
     }
-    b
+    Bus { chains, rx, mix }
 }
 
 // The master distortion, of the amount word 0.

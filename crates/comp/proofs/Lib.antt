@@ -1,3 +1,4 @@
 -- Laws of `comp`.
 pub mod Constants
+pub mod Coefs
 pub mod Volume

@@ -3,8 +3,11 @@ ghost use mathlib.Core.Path.{_≡_};
 ghost use mathlib.Core.Bool.{Bool};
 ghost use Prim.Native.Nat.{_≤_, _<_};
 ghost use lib.ListN.{length};
+ghost use Rattle.float.specs.Consts.{k0p45};
+ghost use Rattle.float.specs.Ops.{_⊗_, _⊘_};
+ghost use Rattle.comp.specs.Consts.{k1000};
 ghost use Rattle.comp.specs.Tables.{attackOf, releaseOf, ratioOf, volRow};
-ghost use Rattle.comp.specs.Comp.{compNew, readOf, peakOf, sideOf, poleOf, sidechainOf, detectOf, coefOf, smoothOf, followOf, levelOf, softOf, reductionOf, mupDb, makeupOf, volFirst, volTurn, volOf, dbOf, gainOf, processOf};
+ghost use Rattle.comp.specs.Comp.{compNew, readOf, peakOf, sideOf, sidechainOf, detectOf, coefOf, smoothOf, followOf, levelOf, softOf, reductionOf, mupDb, makeupOf, volFirst, volTurn, volOf, dbOf, gainOf, processOf};
 
 // The sidechain's two low-passes.
 #[repr(C)]
@@ -30,12 +33,6 @@ pub struct CompOut {
     pub mix: Mix,
 }
 
-const COMP_ATK_MS: [f32; 7] = [0.03, 0.1, 0.3, 1.0, 3.0, 10.0, 30.0];
-
-const COMP_REL_S: [f32; 8] = [0.1, 0.2, 0.4, 0.6, 1.0, 2.0, 0.4, 0.6];
-
-const COMP_RATIO: [f32; 4] = [10.0, 6.0, 3.5, 2.5];
-
 // A row of VOL: the dry gain in dB under that of 127, and wet minus dry, which nothing reads.
 pub struct VolRow {
     pub vol: f32,
@@ -43,84 +40,101 @@ pub struct VolRow {
     pub wet: f32,
 }
 
-const COMP_VOL: [VolRow; 9] = [
-    VolRow {
-        vol: 40.0,
-        dry: -10.85,
-        wet: -16.57,
-    },
-    VolRow {
-        vol: 52.0,
-        dry: -8.30,
-        wet: -14.18,
-    },
-    VolRow {
-        vol: 64.0,
-        dry: -6.38,
-        wet: -12.35,
-    },
-    VolRow {
-        vol: 76.0,
-        dry: -4.85,
-        wet: -10.86,
-    },
-    VolRow {
-        vol: 88.0,
-        dry: -3.44,
-        wet: -9.59,
-    },
-    VolRow {
-        vol: 100.0,
-        dry: -2.20,
-        wet: -8.42,
-    },
-    VolRow {
-        vol: 112.0,
-        dry: -1.13,
-        wet: -7.38,
-    },
-    VolRow {
-        vol: 124.0,
-        dry: -0.21,
-        wet: -6.34,
-    },
-    VolRow {
-        vol: 127.0,
-        dry: 0.0,
-        wet: -6.26,
-    },
-];
+// The tables, each by its parameter's byte; past the end the last. Each is a `match`, which is compiled to one load, where a constant
+// array is copied at each use.
 
-// The tables, each by its parameter's byte; past the end the last.
-fn attack_ms(b: u8) -> f32
-    ensures { λ r. ⌜ r ≡ attackOf b ⌝ }
+// What one sample keeps of a rising envelope: attacks of 0.03, 0.1, 0.3, 1, 3, 10 and 30 ms.
+fn attack(b: u8) -> f32
+    ensures { λ r. ⌜ r ≡ coefOf (attackOf b ⊘ k1000) ⌝ }
 {
-    let i = b as usize;
-    if i < 7 {
-        COMP_ATK_MS[i]
-    } else {
-        COMP_ATK_MS[6]
+    match b {
+        0 => 0.49935177,
+        1 => 0.8119364,
+        2 => 0.93291193,
+        3 => 0.97938216,
+        4 => 0.9930796,
+        5 => 0.99791884,
+        _ => 0.9993058,
     }
 }
 
-fn release_s(b: u8) -> f32
-    ensures { λ r. ⌜ r ≡ releaseOf b ⌝ }
+// And of a falling one: releases of 0.1, 0.2, 0.4, 0.6, 1, 2, 0.4 and 0.6 s, 0.45 of each.
+fn release(b: u8) -> f32
+    ensures { λ r. ⌜ r ≡ coefOf (k0p45 ⊗ releaseOf b) ⌝ }
 {
-    let i = b as usize;
-    if i < 8 { COMP_REL_S[i] } else { COMP_REL_S[7] }
+    match b {
+        0 => 0.9995371,
+        1 => 0.99976856,
+        2 => 0.99988425,
+        3 => 0.9999228,
+        4 => 0.9999537,
+        5 => 0.9999768,
+        6 => 0.99988425,
+        _ => 0.9999228,
+    }
 }
 
 fn ratio(b: u8) -> f32
     ensures { λ r. ⌜ r ≡ ratioOf b ⌝ }
 {
-    let i = b as usize;
-    if i < 4 { COMP_RATIO[i] } else { COMP_RATIO[3] }
+    match b {
+        0 => 10.0,
+        1 => 6.0,
+        2 => 3.5,
+        _ => 2.5,
+    }
 }
 
 fn vol_row(i: usize) -> VolRow
     ensures { λ r. ⌜ r ≡ volRow i ⌝ }
 {
-    if i < 9 { COMP_VOL[i] } else { COMP_VOL[8] }
+    match i {
+        0 => VolRow {
+            vol: 40.0,
+            dry: -10.85,
+            wet: -16.57,
+        },
+        1 => VolRow {
+            vol: 52.0,
+            dry: -8.30,
+            wet: -14.18,
+        },
+        2 => VolRow {
+            vol: 64.0,
+            dry: -6.38,
+            wet: -12.35,
+        },
+        3 => VolRow {
+            vol: 76.0,
+            dry: -4.85,
+            wet: -10.86,
+        },
+        4 => VolRow {
+            vol: 88.0,
+            dry: -3.44,
+            wet: -9.59,
+        },
+        5 => VolRow {
+            vol: 100.0,
+            dry: -2.20,
+            wet: -8.42,
+        },
+        6 => VolRow {
+            vol: 112.0,
+            dry: -1.13,
+            wet: -7.38,
+        },
+        7 => VolRow {
+            vol: 124.0,
+            dry: -0.21,
+            wet: -6.34,
+        },
+        _ => VolRow {
+            vol: 127.0,
+            dry: 0.0,
+            wet: -6.26,
+        },
+    }
 }
 
 // ---- parameters
@@ -168,20 +182,13 @@ fn side(x: f32, l: f32, r: f32) -> f32
     x * float::max(float::signum(l), float::signum(r))
 }
 
-fn pole(hz: f32) -> f32
-    ensures { λ r. ⌜ r ≡ poleOf hz ⌝ }
-{
-    1.0 - power::exp(-6.2831855 * hz / 48000.0)
-}
-
+// The low-passes at 400 and 2500 Hz: 1 - exp(-2π × hz / 48000) of the way in each sample.
 fn sidechain(sc: Sc, s: f32) -> Sc
     ensures { λ r. ⌜ r ≡ sidechainOf sc s ⌝ }
 {
-    let a_lo = pole(400.0);
-    let a_hi = pole(2500.0);
     Sc {
-        lo: sc.lo + a_lo * (s - sc.lo),
-        hi: sc.hi + a_hi * (s - sc.hi),
+        lo: sc.lo + 0.051012695 * (s - sc.lo),
+        hi: sc.hi + 0.27909595 * (s - sc.hi),
     }
 }
 
@@ -197,20 +204,13 @@ fn detect(seq: u8, x: f32, s: f32, sc: Sc) -> f32
     }
 }
 
-// What one sample keeps, of a time in seconds.
-fn coef(t: f32) -> f32
-    ensures { λ r. ⌜ r ≡ coefOf t ⌝ }
-{
-    power::exp(-1.0 / (float::max(t, 0.00001) * 48000.0))
-}
-
 fn smooth(rises: bool, atk: u8, rel: u8) -> f32
     ensures { λ r. ⌜ r ≡ smoothOf rises atk rel ⌝ }
 {
     if rises {
-        return coef(attack_ms(atk) / 1000.0);
+        return attack(atk);
     }
-    coef(0.45 * release_s(rel))
+    release(rel)
 }
 
 fn follow(env: f32, det: f32, atk: u8, rel: u8) -> f32

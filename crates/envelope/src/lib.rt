@@ -1,9 +1,9 @@
 // Envelope records, and the envelopes that follow them: Env (dual voices, hat, cymbal) and SegEnv (a chain's amp and filter).
 ghost use mathlib.Core.Path.{_≡_};
-ghost use mathlib.Core.Bool.{Bool, cond, not, _&&_, _||_};
+ghost use mathlib.Core.Bool.{Bool, true, false, cond, not, _&&_, _||_};
 ghost use Prim.Native.Nat.{_+_, _*_, _/_, _≤_, _<_};
 ghost use Rattle.envelope.specs.Record.{levelOf, expOf, mantOf, modeOf, rateOf, stepOf, recordOf, tickOf};
-ghost use Rattle.envelope.specs.Moves.{moveBy, settle, alike, dualOf, hitOf, keyOf, sameKey, segStarts, holdOf, segOf};
+ghost use Rattle.envelope.specs.Moves.{moveBy, settle, alike, dualOf, hitOf, keyOf, sameKey, holdOf, segOf};
 
 // One 8-byte record. Its first word is a command: not zero starts the segment.
 #[repr(C)]
@@ -199,43 +199,41 @@ pub struct SegEnv {
 }
 
 impl SegEnv {
-    // Whether the record starts the segment: an amp's by its command, a filter's by a changed key with mode 9 or F.
-    fn starts(self, r: [u8; 8], cmd_word: bool) -> bool
-        ensures { λ x. ⌜ x ≡ segStarts «cmd_word» r self ⌝ }
-    {
-        if cmd_word {
-            let rec = Record::parse(r);
-            return rec.start_cmd & !self.cmd;
-        }
-        let mode = mode_of(r);
-        let was = self.key;
-        let key = Key::of(r);
-        let changed = !key.same(was);
-        changed & ((mode == 9) | (mode == 15))
-    }
-
-    // `cmd_word`: the record's first word is a start command (amp), not a depth.
-    pub fn tick(self, r: [u8; 8], cmd_word: bool) -> SegEnv
-        ensures { λ x. ⌜ x ≡ segOf «cmd_word» r self ⌝ }
+    // An amp's: the command in the record's first word starts the segment.
+    pub fn amp(self, r: [u8; 8]) -> SegEnv
+        ensures { λ x. ⌜ x ≡ segOf true r self ⌝ }
     {
         let rec = Record::parse(r);
         let key = Key::of(r);
-        let restarted = self.starts(r, cmd_word);
+        let restarted = rec.start_cmd & !self.cmd;
         let stood = float::choose(restarted, rec.start, self.level);
         let hold = hold_of(mode_of(r), key.rate, rec.target - stood, self.hold);
         let level = settled(r, restarted, hold, false, self.level);
-        let cmd = pick(cmd_word, rec.start_cmd, self.cmd);
         SegEnv {
             key,
             level,
             hold,
-            cmd,
+            cmd: rec.start_cmd,
         }
     }
-}
 
-fn pick(c: bool, a: bool, b: bool) -> bool
-    ensures { λ r. ⌜ r ≡ cond c a b ⌝ }
-{
-    if c { a } else { b }
+    // A filter's, whose first word is a depth: a changed key with mode 9 or F starts it.
+    pub fn filter(self, r: [u8; 8]) -> SegEnv
+        ensures { λ x. ⌜ x ≡ segOf false r self ⌝ }
+    {
+        let rec = Record::parse(r);
+        let key = Key::of(r);
+        let mode = mode_of(r);
+        let was = self.key;
+        let restarted = !key.same(was) & ((mode == 9) | (mode == 15));
+        let stood = float::choose(restarted, rec.start, self.level);
+        let hold = hold_of(mode, key.rate, rec.target - stood, self.hold);
+        let level = settled(r, restarted, hold, false, self.level);
+        SegEnv {
+            key,
+            level,
+            hold,
+            cmd: self.cmd,
+        }
+    }
 }

@@ -27,14 +27,6 @@ abs-below (inf false) h = no h
 abs-below (fin true m e) h = refl
 abs-below (fin false m e) h = let k = ltb-true (m * up e * 1) (0 * down e) h in absurd (omega arith)
 
-pub abs-above : (x : Float) → lt zero+ x ≡ true → x ≡ absOf x
-unfolding lt absOf
-abs-above nan h = no h
-abs-above (inf true) h = no h
-abs-above (inf false) h = refl
-abs-above (fin false m e) h = refl
-abs-above (fin true m e) h = no h
-
 -- a zero is written in one way
 flat : (e : ℤ) → up e * down e ≡ 1 → e ≡ pos 0
 flat (pos zero) h = refl
@@ -67,6 +59,16 @@ clash a b s p q l = no (sym (level-by (eqb a b) (eqb a 0) (eq-eqb a b (p ∙ sym
     level-by : (t u : Bool) → t ≡ true → u ≡ true → (t && (s || u)) ≡ false → true ≡ false
     level-by t u e f g = sym (ap (λ (v : Bool). v && (s || u)) e ∙ ap (λ (v : Bool). s || v) f ∙ or-true s) ∙ g
 
+-- what is neither below zero nor equal to it is its own size
+pub abs-else : (x : Float) → lt x zero+ ≡ false → eq x zero+ ≡ false → x ≡ absOf x
+unfolding lt eq absOf
+abs-else nan h l = refl
+abs-else (inf true) h l = no (sym h)
+abs-else (inf false) h l = refl
+abs-else (fin false m e) h l = refl
+abs-else (fin true m e) h l =
+    let q = ltb-false 0 (m * up e * 1 + 0 * down e) h in clash (m * up e * 1) (0 * down e) false (omega arith) (omega arith) l
+
 -- what neither test nor equality finds is no number
 pub abs-none : (x : Float) → lt x zero+ ≡ false → lt zero+ x ≡ false → eq x zero+ ≡ false → x ≡ nan
 unfolding lt eq
@@ -77,10 +79,6 @@ abs-none (fin true m e) h k l =
     let q = ltb-false 0 (m * up e * 1 + 0 * down e) h in clash (m * up e * 1) (0 * down e) false (omega arith) (omega arith) l
 abs-none (fin false m e) h k l =
     let q = ltb-false (0 * down e) (m * up e * 1) k in clash (m * up e * 1) (0 * down e) true (omega arith) (omega arith) l
-
-pub abs-nan : (x : Float) → x ≡ nan → x ≡ absOf x
-unfolding absOf
-abs-nan x e = rw e
 
 -- ---- the sign
 pub signum-below : (x : Float) → lt x zero+ ≡ true → fin true 1 (pos 0) ≡ signumOf x

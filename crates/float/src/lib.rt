@@ -5,6 +5,7 @@ ghost use Prim.Native.Nat.{_+_, _-_, _^_, min};
 ghost use lib.IntN.{pos};
 ghost use lib.Ieee.{binary32, ofInt, toSigned};
 ghost use lib.Ieee.Scale.{finite};
+ghost use Rattle.float.specs.Consts.{k1};
 ghost use Rattle.float.specs.Floats.{absOf, signumOf, minOf, maxOf, clampOf, fractOf, remEuclidOf, to24Of};
 
 pub fn abs(x: f32) -> f32
@@ -12,8 +13,6 @@ pub fn abs(x: f32) -> f32
 {
     if x < 0.0 {
         -x
-    } else if 0.0 < x {
-        x
     } else if x == 0.0 {
         0.0
     } else {
@@ -80,9 +79,13 @@ pub fn is_finite(x: f32) -> bool
     x - x == 0.0
 }
 
+// Between 0 and 1 it is the number itself, without a call of C's `fmodf`.
 pub fn fract(x: f32) -> f32
     ensures { λ r. ⌜ r ≡ fractOf x ⌝ }
 {
+    if (0.0 < x) & (x < 1.0) {
+        return x + 0.0;
+    }
     x % 1.0 + 0.0
 }
 
@@ -91,6 +94,16 @@ pub fn rem_euclid(x: f32, y: f32) -> f32
 {
     let r = x % y;
     if r < 0.0 { r + abs(y) } else { r }
+}
+
+// `x.rem_euclid(1.0)`, likewise.
+pub fn rem_euclid_one(x: f32) -> f32
+    ensures { λ r. ⌜ r ≡ remEuclidOf x k1 ⌝ }
+{
+    if (0.0 < x) & (x < 1.0) {
+        return x + 0.0;
+    }
+    rem_euclid(x, 1.0)
 }
 
 // One of two values, without a branch in the caller.
@@ -110,6 +123,9 @@ pub fn from_u32(n: u32) -> f32
 pub fn from_i32(n: i32) -> f32
     ensures { λ r. ⌜ r ≡ ofInt binary32 n ⌝ }
 {
+    if (-16777216 <= n) & (n <= 16777216) {
+        return n as f32;
+    }
     std::num::nearest_i32_to_f32(n)
 }
 

@@ -1,2 +1,3 @@
 -- The laws.
 pub mod Sweep
+pub mod Missed

@@ -126,7 +126,7 @@ pub fn advance(ph: f32, hz: f32, fs: f32) -> f32
 pub fn advance_fm(ph: f32, hz: f32, fs: f32) -> f32
     ensures { λ r. ⌜ r ≡ advancedFm ph hz fs ⌝ }
 {
-    float::rem_euclid(ph + hz / fs, 1.0)
+    float::rem_euclid_one(ph + hz / fs)
 }
 
 impl Pair {

@@ -1,6 +1,7 @@
--- `board::step` meets its contract: the lowest refusal that applies, or the step. Assumes nothing.
+-- `board::step` meets its contract: the lowest refusal that applies, or the step, each part by its own contract. Assumes nothing.
+use native.Mathlib.Omega.{arith}
 use borrow.Author.Tests.{le-ltb, lt-ltb, ne-eqb}
-use Rattle.board.specs.Board.{answerOf, answeredOf, refusalOf}
+use Rattle.board.specs.Board.{takenOf, steppedOf, answerOf, answeredOf, refusalOf}
 use borrow.Author.Needs.{needs}
 use Rattle.board.proofs.step.Statement.{statement}
 use Rattle.board.proofs.step.Tie as tie
@@ -32,12 +33,24 @@ all-in-range-requires c κs = search needs
 inputs-ok-requires : tie.Need-inputs-ok-requires
 inputs-ok-requires c κs = search needs
 
-stepped-requires : tie.Need-stepped-requires
-stepped-requires c κs = search needs
+sound-requires : tie.Need-sound-requires
+sound-requires c κs = (omega (arith, c .before .before .before .before .before .before .before .before .before .before .before .if1 .left), omega (arith, c .before .before .before .before .before .before .before .before .before .if3 .left))
+
+voices-requires : tie.Need-voices-requires
+voices-requires c κs = (omega (arith, c .before .before .before .before .before .before .before .before .before .before .before .before .before .before .if1 .left), omega (arith, c .before .before .before .before .before .before .before .before .before .before .before .before .if3 .left))
+
+master-requires : tie.Need-master-requires
+master-requires c κs = (omega (arith, c .before .before .before .before .before .before .before .before .before .before .before .before .before .before .before .before .before .if1 .left), omega (arith, c .before .before .before .before .before .before .before .before .before .before .before .before .before .before .before .if3 .left))
+
+process-requires : tie.Need-process-requires
+process-requires c κs = omega (arith, c .before .before .before .before .before .before .before .before .before .before .before .before .before .before .before .before .before .before .if2 .left)
+
+words-requires : tie.Need-words-requires
+words-requires c κs = search needs
 
 returns-4 : tie.Need-returns-4
-unfolding answerOf answeredOf refusalOf
-returns-4 c = rw (le-ltb _ _ (c .before .before .before .before .before .before .before .if1 .left), le-ltb _ _ (c .before .before .before .before .before .before .if2 .left), c .before .before .before .before .before .if3 .left, ← c .before .before .before .before .all-in-range .ensures, c .before .before .before .if4 .taken, ← c .before .before .inputs-ok .ensures, c .before .if5 .taken, ← c .stepped .ensures)
+unfolding answerOf answeredOf refusalOf steppedOf takenOf
+returns-4 c = rw (le-ltb _ _ (c .before .before .before .before .before .before .before .before .before .before .before .before .before .before .before .before .before .before .before .before .before .before .before .before .before .before .before .before .before .before .before .if1 .left), le-ltb _ _ (c .before .before .before .before .before .before .before .before .before .before .before .before .before .before .before .before .before .before .before .before .before .before .before .before .before .before .before .before .before .before .if2 .left), c .before .before .before .before .before .before .before .before .before .before .before .before .before .before .before .before .before .before .before .before .before .before .before .before .before .before .before .before .before .if3 .left, ← c .before .before .before .before .before .before .before .before .before .before .before .before .before .before .before .before .before .before .before .before .before .before .before .before .before .before .before .before .all-in-range .ensures, c .before .before .before .before .before .before .before .before .before .before .before .before .before .before .before .before .before .before .before .before .before .before .before .before .before .before .before .if4 .taken, ← c .before .before .before .before .before .before .before .before .before .before .before .before .before .before .before .before .before .before .before .before .before .before .before .before .before .before .inputs-ok .ensures, c .before .before .before .before .before .before .before .before .before .before .before .before .before .before .before .before .before .before .before .before .before .before .before .before .before .if5 .taken, ← c .before .before .before .before .before .before .before .before .before .before .before .before .before .before .before .before .before .before .before .sound .ensures, ← c .before .before .before .before .before .before .before .before .before .before .before .before .before .before .before .before .voices .ensures, ← c .before .before .before .before .before .before .before .before .before .before .before .before .before .master .ensures, ← c .before .before .before .before .before .before .before .before .before .before .before .process .ensures, ← c .before .before .before .before .before .before .before .words .ensures)
 
 refused-requires-4 : tie.Need-refused-requires-4
 refused-requires-4 c κs = search needs
@@ -54,20 +67,4 @@ unfolding answerOf answeredOf refusalOf
 returns-6 c = rw (le-ltb _ _ (c .before .before .before .before .before .if1 .left), le-ltb _ _ (c .before .before .before .before .if2 .left), c .before .before .before .if3 .left, ← c .before .before .all-in-range .ensures, c .before .if4 .left, ← c .refused5 .ensures)
 
 pub step-spec : {M : Type 1} → statement M
-step-spec =
-    tie.close
-    (tie.spec
-    refused-requires
-    returns
-    refused-requires-2
-    returns-2
-    refused-requires-3
-    returns-3
-    all-in-range-requires
-    inputs-ok-requires
-    stepped-requires
-    returns-4
-    refused-requires-4
-    returns-5
-    refused-requires-5
-    returns-6)
+step-spec = tie.close (tie.spec refused-requires returns refused-requires-2 returns-2 refused-requires-3 returns-3 all-in-range-requires inputs-ok-requires sound-requires voices-requires master-requires process-requires words-requires returns-4 refused-requires-4 returns-5 refused-requires-5 returns-6)

@@ -1,27 +1,28 @@
--- `frame::cym_path` meets its contract: below the end the number itself, from there on the last. Assumes nothing.
-use native.Mathlib.Nat.{min-eq-left, min-eq-right, le-of-suc-le, le-of-suc-le-suc}
+-- `frame::cym_path` meets its contract: each arm is its entry of the table, and the last stands for all numbers from there on. Assumes nothing.
+use Rattle.lists.proofs.Missed.{missed-min}
 use Rattle.frame.specs.Offsets.{cymPath, cymPaths}
-use borrow.Author.Needs.{needs}
 use Rattle.frame.proofs.cym_path.Statement.{statement}
 use Rattle.frame.proofs.cym_path.Tie as tie
 
-mul-result : tie.Need-mul-result
-mul-result c = search needs
-
-array-copy-out-result : tie.Need-array-copy-out-result
-array-copy-out-result c = search needs
-
-array-copy-out-result-2 : tie.Need-array-copy-out-result-2
-array-copy-out-result-2 c = search needs
-
 returns : tie.Need-returns
 unfolding cymPath cymPaths
-returns c = rw (min-eq-left (le-of-suc-le-suc (c .before .if1 .taken)))
+returns c = rw (c .match .keys1)
 
 returns-2 : tie.Need-returns-2
 unfolding cymPath cymPaths
-returns-2 c = rw (min-eq-right (le-of-suc-le (c .before .if1 .left)))
+returns-2 c = rw (c .match .keys2)
+
+returns-3 : tie.Need-returns-3
+unfolding cymPath cymPaths
+returns-3 c = rw (c .match .keys3)
+
+returns-4 : tie.Need-returns-4
+unfolding cymPath cymPaths
+returns-4 c = rw (c .match .keys4)
+
+returns-5 : tie.Need-returns-5
+unfolding cymPath cymPaths
+returns-5 c = rw (missed-min 4 (c .before .args .p) (c .match .rest))
 
 pub cym-path-spec : {M : Type 1} → statement M
-cym-path-spec =
-    tie.close (tie.spec mul-result array-copy-out-result array-copy-out-result-2 returns returns-2)
+cym-path-spec = tie.close (tie.spec returns returns-2 returns-3 returns-4 returns-5)

@@ -1,27 +1,20 @@
--- `frame::dual_spec` meets its contract: below the end the number itself, from there on the last. Assumes nothing.
-use native.Mathlib.Nat.{min-eq-left, min-eq-right, le-of-suc-le, le-of-suc-le-suc}
+-- `frame::dual_spec` meets its contract: each arm is its entry of the table, and the last stands for all numbers from there on. Assumes nothing.
+use Rattle.lists.proofs.Missed.{missed-min}
 use Rattle.frame.specs.Offsets.{dualSpec, duals}
-use borrow.Author.Needs.{needs}
 use Rattle.frame.proofs.dual_spec.Statement.{statement}
 use Rattle.frame.proofs.dual_spec.Tie as tie
 
-mul-result : tie.Need-mul-result
-mul-result c = search needs
-
-array-copy-out-result : tie.Need-array-copy-out-result
-array-copy-out-result c = search needs
-
-array-copy-out-result-2 : tie.Need-array-copy-out-result-2
-array-copy-out-result-2 c = search needs
-
 returns : tie.Need-returns
 unfolding dualSpec duals
-returns c = rw (min-eq-left (le-of-suc-le-suc (c .before .if1 .taken)))
+returns c = rw (c .match .keys1)
 
 returns-2 : tie.Need-returns-2
 unfolding dualSpec duals
-returns-2 c = rw (min-eq-right (le-of-suc-le (c .before .if1 .left)))
+returns-2 c = rw (c .match .keys2)
+
+returns-3 : tie.Need-returns-3
+unfolding dualSpec duals
+returns-3 c = rw (missed-min 2 (c .before .args .d) (c .match .rest))
 
 pub dual-spec-spec : {M : Type 1} → statement M
-dual-spec-spec =
-    tie.close (tie.spec mul-result array-copy-out-result array-copy-out-result-2 returns returns-2)
+dual-spec-spec = tie.close (tie.spec returns returns-2 returns-3)

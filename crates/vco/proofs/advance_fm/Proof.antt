@@ -4,12 +4,12 @@ use borrow.Author.Needs.{needs}
 use Rattle.vco.proofs.advance_fm.Statement.{statement}
 use Rattle.vco.proofs.advance_fm.Tie as tie
 
-rem-euclid-requires : tie.Need-rem-euclid-requires
-rem-euclid-requires c κs = search needs
+rem-euclid-one-requires : tie.Need-rem-euclid-one-requires
+rem-euclid-one-requires c κs = search needs
 
 returns : tie.Need-returns
 unfolding advancedFm
-returns c = rw (← c .rem-euclid .ensures)
+returns c = rw (← c .rem-euclid-one .ensures)
 
 pub advance-fm-spec : {M : Type 1} → statement M
-advance-fm-spec = tie.close (tie.spec rem-euclid-requires returns)
+advance-fm-spec = tie.close (tie.spec rem-euclid-one-requires returns)

@@ -33,6 +33,31 @@ pub struct CompOut {
     pub mix: Mix,
 }
 
+// What one sample keeps of a rising envelope: attacks of 0.03, 0.1, 0.3, 1, 3, 10 and 30 ms.
+const COMP_ATK: [f32; 7] = [
+    0.49935177,
+    0.8119364,
+    0.93291193,
+    0.97938216,
+    0.9930796,
+    0.99791884,
+    0.9993058,
+];
+
+// And of a falling one: releases of 0.1, 0.2, 0.4, 0.6, 1, 2, 0.4 and 0.6 s, 0.45 of each.
+const COMP_REL: [f32; 8] = [
+    0.9995371,
+    0.99976856,
+    0.99988425,
+    0.9999228,
+    0.9999537,
+    0.9999768,
+    0.99988425,
+    0.9999228,
+];
+
+const COMP_RATIO: [f32; 4] = [10.0, 6.0, 3.5, 2.5];
+
 // A row of VOL: the dry gain in dB under that of 127, and wet minus dry, which nothing reads.
 pub struct VolRow {
     pub vol: f32,
@@ -40,37 +65,82 @@ pub struct VolRow {
     pub wet: f32,
 }
 
-// The tables, each by its parameter's byte; past the end the last. Each is a `match`, which is compiled to one load, where a constant
-// array is copied at each use.
+const COMP_VOL: [VolRow; 9] = [
+    VolRow {
+        vol: 40.0,
+        dry: -10.85,
+        wet: -16.57,
+    },
+    VolRow {
+        vol: 52.0,
+        dry: -8.30,
+        wet: -14.18,
+    },
+    VolRow {
+        vol: 64.0,
+        dry: -6.38,
+        wet: -12.35,
+    },
+    VolRow {
+        vol: 76.0,
+        dry: -4.85,
+        wet: -10.86,
+    },
+    VolRow {
+        vol: 88.0,
+        dry: -3.44,
+        wet: -9.59,
+    },
+    VolRow {
+        vol: 100.0,
+        dry: -2.20,
+        wet: -8.42,
+    },
+    VolRow {
+        vol: 112.0,
+        dry: -1.13,
+        wet: -7.38,
+    },
+    VolRow {
+        vol: 124.0,
+        dry: -0.21,
+        wet: -6.34,
+    },
+    VolRow {
+        vol: 127.0,
+        dry: 0.0,
+        wet: -6.26,
+    },
+];
 
-// What one sample keeps of a rising envelope: attacks of 0.03, 0.1, 0.3, 1, 3, 10 and 30 ms.
+// The tables, each by its parameter's byte; past the end the last. An entry is read by its number written out: an index that is not
+// known copies the array.
 fn attack(b: u8) -> f32
     ensures { λ r. ⌜ r ≡ coefOf (attackOf b ⊘ k1000) ⌝ }
 {
     match b {
-        0 => 0.49935177,
-        1 => 0.8119364,
-        2 => 0.93291193,
-        3 => 0.97938216,
-        4 => 0.9930796,
-        5 => 0.99791884,
-        _ => 0.9993058,
+        0 => COMP_ATK[0],
+        1 => COMP_ATK[1],
+        2 => COMP_ATK[2],
+        3 => COMP_ATK[3],
+        4 => COMP_ATK[4],
+        5 => COMP_ATK[5],
+        _ => COMP_ATK[6],
     }
 }
 
-// And of a falling one: releases of 0.1, 0.2, 0.4, 0.6, 1, 2, 0.4 and 0.6 s, 0.45 of each.
 fn release(b: u8) -> f32
     ensures { λ r. ⌜ r ≡ coefOf (k0p45 ⊗ releaseOf b) ⌝ }
 {
     match b {
-        0 => 0.9995371,
-        1 => 0.99976856,
-        2 => 0.99988425,
-        3 => 0.9999228,
-        4 => 0.9999537,
-        5 => 0.9999768,
-        6 => 0.99988425,
-        _ => 0.9999228,
+        0 => COMP_REL[0],
+        1 => COMP_REL[1],
+        2 => COMP_REL[2],
+        3 => COMP_REL[3],
+        4 => COMP_REL[4],
+        5 => COMP_REL[5],
+        6 => COMP_REL[6],
+        _ => COMP_REL[7],
     }
 }
 
@@ -78,10 +148,10 @@ fn ratio(b: u8) -> f32
     ensures { λ r. ⌜ r ≡ ratioOf b ⌝ }
 {
     match b {
-        0 => 10.0,
-        1 => 6.0,
-        2 => 3.5,
-        _ => 2.5,
+        0 => COMP_RATIO[0],
+        1 => COMP_RATIO[1],
+        2 => COMP_RATIO[2],
+        _ => COMP_RATIO[3],
     }
 }
 
@@ -89,51 +159,15 @@ fn vol_row(i: usize) -> VolRow
     ensures { λ r. ⌜ r ≡ volRow i ⌝ }
 {
     match i {
-        0 => VolRow {
-            vol: 40.0,
-            dry: -10.85,
-            wet: -16.57,
-        },
-        1 => VolRow {
-            vol: 52.0,
-            dry: -8.30,
-            wet: -14.18,
-        },
-        2 => VolRow {
-            vol: 64.0,
-            dry: -6.38,
-            wet: -12.35,
-        },
-        3 => VolRow {
-            vol: 76.0,
-            dry: -4.85,
-            wet: -10.86,
-        },
-        4 => VolRow {
-            vol: 88.0,
-            dry: -3.44,
-            wet: -9.59,
-        },
-        5 => VolRow {
-            vol: 100.0,
-            dry: -2.20,
-            wet: -8.42,
-        },
-        6 => VolRow {
-            vol: 112.0,
-            dry: -1.13,
-            wet: -7.38,
-        },
-        7 => VolRow {
-            vol: 124.0,
-            dry: -0.21,
-            wet: -6.34,
-        },
-        _ => VolRow {
-            vol: 127.0,
-            dry: 0.0,
-            wet: -6.26,
-        },
+        0 => COMP_VOL[0],
+        1 => COMP_VOL[1],
+        2 => COMP_VOL[2],
+        3 => COMP_VOL[3],
+        4 => COMP_VOL[4],
+        5 => COMP_VOL[5],
+        6 => COMP_VOL[6],
+        7 => COMP_VOL[7],
+        _ => COMP_VOL[8],
     }
 }
 

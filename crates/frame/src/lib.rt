@@ -14,6 +14,27 @@ pub struct DualSpec {
     pub sw: [usize; 7],
 }
 
+const DUALS: [DualSpec; 3] = [
+    DualSpec {
+        voice: 0,
+        cv: 90,
+        env: 360,
+        sw: [12, 44, 8, 47, 46, 45, 40],
+    },
+    DualSpec {
+        voice: 2,
+        cv: 98,
+        env: 392,
+        sw: [0, 32, 36, 35, 34, 33, 56],
+    },
+    DualSpec {
+        voice: 7,
+        cv: 106,
+        env: 424,
+        sw: [28, 4, 24, 7, 6, 5, 60],
+    },
+];
+
 // A tom: its tune and decay CVs and its exciter's DAC word.
 pub struct TomSpec {
     pub voice: usize,
@@ -22,6 +43,27 @@ pub struct TomSpec {
     pub dac: usize,
 }
 
+const TOMS: [TomSpec; 3] = [
+    TomSpec {
+        voice: 1,
+        tune: 118,
+        decay: 120,
+        dac: 8,
+    },
+    TomSpec {
+        voice: 3,
+        tune: 122,
+        decay: 124,
+        dac: 9,
+    },
+    TomSpec {
+        voice: 5,
+        tune: 126,
+        decay: 128,
+        dac: 10,
+    },
+];
+
 // A path of the cymbal: its record, its centre in Hz, and whether it is a high-pass.
 pub struct CymPath {
     pub rec: usize,
@@ -29,37 +71,63 @@ pub struct CymPath {
     pub high: bool,
 }
 
+const CYM_PATHS: [CymPath; 5] = [
+    CymPath {
+        rec: 2,
+        hz: 3400.0,
+        high: false,
+    },
+    CymPath {
+        rec: 3,
+        hz: 7000.0,
+        high: false,
+    },
+    CymPath {
+        rec: 4,
+        hz: 9000.0,
+        high: true,
+    },
+    CymPath {
+        rec: 6,
+        hz: 1200.0,
+        high: false,
+    },
+    CymPath {
+        rec: 7,
+        hz: 6000.0,
+        high: true,
+    },
+];
+
 // Where a voice's filter type stands: the byte and the lowest of its three bits.
 pub struct FltAt {
     pub byte: usize,
     pub lo: u8,
 }
 
-// The tables are each a `match`, which is compiled to one load, where a constant array is copied at each use.
+const FLT_TYPE_AT: [FltAt; 8] = [
+    FltAt { byte: 161, lo: 1 },
+    FltAt { byte: 161, lo: 5 },
+    FltAt { byte: 164, lo: 5 },
+    FltAt { byte: 160, lo: 1 },
+    FltAt { byte: 167, lo: 1 },
+    FltAt { byte: 163, lo: 5 },
+    FltAt { byte: 167, lo: 5 },
+    FltAt { byte: 163, lo: 1 },
+];
+
+const ROUTE_BIT: [u8; 8] = [3, 2, 1, 0, 4, 5, 6, 7];
+
+// An entry is read by its number written out: an index that is not known copies the array.
 
 // BD, SD, and RS from 2 on.
 pub fn dual_spec(d: usize) -> DualSpec
     ensures { λ r. ⌜ r ≡ dualSpec d ⌝ }
 {
     match d {
-        0 => DualSpec {
-            voice: 0,
-            cv: 90,
-            env: 360,
-            sw: [12, 44, 8, 47, 46, 45, 40],
-        },
-        1 => DualSpec {
-            voice: 2,
-            cv: 98,
-            env: 392,
-            sw: [0, 32, 36, 35, 34, 33, 56],
-        },
-        _ => DualSpec {
-            voice: 7,
-            cv: 106,
-            env: 424,
-            sw: [28, 4, 24, 7, 6, 5, 60],
-        },
+        0 => DUALS[0],
+        1 => DUALS[1],
+        _ => DUALS[2],
     }
 }
 
@@ -68,24 +136,9 @@ pub fn tom_spec(t: usize) -> TomSpec
     ensures { λ r. ⌜ r ≡ tomSpec t ⌝ }
 {
     match t {
-        0 => TomSpec {
-            voice: 1,
-            tune: 118,
-            decay: 120,
-            dac: 8,
-        },
-        1 => TomSpec {
-            voice: 3,
-            tune: 122,
-            decay: 124,
-            dac: 9,
-        },
-        _ => TomSpec {
-            voice: 5,
-            tune: 126,
-            decay: 128,
-            dac: 10,
-        },
+        0 => TOMS[0],
+        1 => TOMS[1],
+        _ => TOMS[2],
     }
 }
 
@@ -93,31 +146,11 @@ pub fn cym_path(p: usize) -> CymPath
     ensures { λ r. ⌜ r ≡ cymPath p ⌝ }
 {
     match p {
-        0 => CymPath {
-            rec: 2,
-            hz: 3400.0,
-            high: false,
-        },
-        1 => CymPath {
-            rec: 3,
-            hz: 7000.0,
-            high: false,
-        },
-        2 => CymPath {
-            rec: 4,
-            hz: 9000.0,
-            high: true,
-        },
-        3 => CymPath {
-            rec: 6,
-            hz: 1200.0,
-            high: false,
-        },
-        _ => CymPath {
-            rec: 7,
-            hz: 6000.0,
-            high: true,
-        },
+        0 => CYM_PATHS[0],
+        1 => CYM_PATHS[1],
+        2 => CYM_PATHS[2],
+        3 => CYM_PATHS[3],
+        _ => CYM_PATHS[4],
     }
 }
 
@@ -125,14 +158,14 @@ fn flt_at(v: usize) -> FltAt
     ensures { λ r. ⌜ r ≡ fltAt v ⌝ }
 {
     match v {
-        0 => FltAt { byte: 161, lo: 1 },
-        1 => FltAt { byte: 161, lo: 5 },
-        2 => FltAt { byte: 164, lo: 5 },
-        3 => FltAt { byte: 160, lo: 1 },
-        4 => FltAt { byte: 167, lo: 1 },
-        5 => FltAt { byte: 163, lo: 5 },
-        6 => FltAt { byte: 167, lo: 5 },
-        _ => FltAt { byte: 163, lo: 1 },
+        0 => FLT_TYPE_AT[0],
+        1 => FLT_TYPE_AT[1],
+        2 => FLT_TYPE_AT[2],
+        3 => FLT_TYPE_AT[3],
+        4 => FLT_TYPE_AT[4],
+        5 => FLT_TYPE_AT[5],
+        6 => FLT_TYPE_AT[6],
+        _ => FLT_TYPE_AT[7],
     }
 }
 
@@ -140,14 +173,14 @@ fn route_bit(v: usize) -> u8
     ensures { λ r. ⌜ r ≡ routeBit v ⌝ }
 {
     match v {
-        0 => 3,
-        1 => 2,
-        2 => 1,
-        3 => 0,
-        4 => 4,
-        5 => 5,
-        6 => 6,
-        _ => 7,
+        0 => ROUTE_BIT[0],
+        1 => ROUTE_BIT[1],
+        2 => ROUTE_BIT[2],
+        3 => ROUTE_BIT[3],
+        4 => ROUTE_BIT[4],
+        5 => ROUTE_BIT[5],
+        6 => ROUTE_BIT[6],
+        _ => ROUTE_BIT[7],
     }
 }
 

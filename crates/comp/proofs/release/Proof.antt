@@ -2,8 +2,33 @@
 use Rattle.lists.proofs.Missed.{missed-min}
 use Rattle.comp.specs.Tables.{releaseOf}
 use Rattle.comp.proofs.Coefs.{coefs}
+use borrow.Author.Needs.{needs}
 use Rattle.comp.proofs.release.Statement.{statement}
 use Rattle.comp.proofs.release.Tie as tie
+
+array-read-result : tie.Need-array-read-result
+array-read-result c = search needs
+
+array-read-result-2 : tie.Need-array-read-result-2
+array-read-result-2 c = search needs
+
+array-read-result-3 : tie.Need-array-read-result-3
+array-read-result-3 c = search needs
+
+array-read-result-4 : tie.Need-array-read-result-4
+array-read-result-4 c = search needs
+
+array-read-result-5 : tie.Need-array-read-result-5
+array-read-result-5 c = search needs
+
+array-read-result-6 : tie.Need-array-read-result-6
+array-read-result-6 c = search needs
+
+array-read-result-7 : tie.Need-array-read-result-7
+array-read-result-7 c = search needs
+
+array-read-result-8 : tie.Need-array-read-result-8
+array-read-result-8 c = search needs
 
 returns : tie.Need-returns
 returns c = rw (c .match .keys1, coefs .release0)
@@ -31,4 +56,22 @@ unfolding releaseOf
 returns-8 c = rw (missed-min 7 (c .before .args .b) (c .match .rest), coefs .release7)
 
 pub release-spec : {M : Type 1} → statement M
-release-spec = tie.close (tie.spec returns returns-2 returns-3 returns-4 returns-5 returns-6 returns-7 returns-8)
+release-spec =
+    tie.close
+    (tie.spec
+    array-read-result
+    array-read-result-2
+    array-read-result-3
+    array-read-result-4
+    array-read-result-5
+    array-read-result-6
+    array-read-result-7
+    array-read-result-8
+    returns
+    returns-2
+    returns-3
+    returns-4
+    returns-5
+    returns-6
+    returns-7
+    returns-8)

@@ -12,9 +12,9 @@ ghost use Rattle.recording.specs.Replay.{afterOf};
 ghost use Rattle.player.specs.Lines.{stepLine, answerLine, lineOf, linesOf, longOf};
 
 // The end of a text in a page, and the rest of the recording.
-pub struct Page {
-    pub at: usize,
-    pub playing: Playing,
+struct Page {
+    at: usize,
+    playing: Playing,
 }
 
 // The step's number, the answer's number, the words.
@@ -70,7 +70,7 @@ fn line(p: Playing, rec: &[u8], out: &mut [u8], at: usize, full: bool) -> Page
 }
 
 // The lines of `count` steps.
-pub fn lines(p: Playing, rec: &[u8], out: &mut [u8], count: u32, full: bool) -> Page
+fn lines(p: Playing, rec: &[u8], out: &mut [u8], count: u32, full: bool) -> Page
     requires { ⌜ 176 * count ≤ length (now out) ⌝ }
     ensures { λ r. ⌜ r .playing ≡ afterOf count p (now (rec .entry)) ⌝ }
     ensures { λ r. ⌜ r .at ≤ length (now (out .entry)) ⌝ }
@@ -142,7 +142,7 @@ fn play(rec: &[u8], full: bool) {
 }
 
 // What an input of more than 65,536 bytes is refused by.
-pub fn long(rec: &[u8]) -> Outcome
+fn long(rec: &[u8]) -> Outcome
     ensures { λ r. ⌜ r ≡ longOf (now (rec .entry)) ⌝ }
 {
     if recording::opening_ok(rec) {
@@ -151,14 +151,17 @@ pub fn long(rec: &[u8]) -> Outcome
     Outcome::BadOpening
 }
 
-// Reads standard input to its end into 65,536 bytes, and plays it.
+// Reads standard input to its end into 65,536 bytes, and plays it; `full` puts the mix in the place of the step's number.
 pub fn run(full: bool) {
     let mut rec = [0u8; 65536];
     let n = io::read_full(0, &mut rec);
-    let mut more = [0u8; 1];
-    let m = io::read_full(0, &mut more);
-    if m == 0 {
+    if n < 65536 {
         play(&rec[..n], full);
+        return;
+    }
+    let mut more = [0u8; 1];
+    if io::read_full(0, &mut more) == 0 {
+        play(&rec, full);
         return;
     }
     refuse(long(&rec));

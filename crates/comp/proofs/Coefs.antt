@@ -5,8 +5,8 @@ use Rattle.float.specs.Consts.{k0p45}
 use Rattle.float.specs.Ops.{_⊗_, _⊘_}
 use Rattle.float.specs.Floats.{maxOf}
 use Rattle.series.specs.Horner.{horner}
-use Rattle.fixed.specs.Fixed.{sizeOf, twoTo}
-use Rattle.power.specs.Power.{expOf, fallOf, powerOf, fractionOf, significandOf}
+use Rattle.fixed.specs.Fixed.{sizeOf}
+use Rattle.power.specs.Power.{expOf, fallOf, powerOf, fractionOf}
 use Rattle.comp.specs.Consts.{k400, k1000, k2500}
 use Rattle.comp.specs.Tables.{attackOf, attacks, releaseOf, releases}
 use Rattle.comp.specs.Comp.{poleOf, coefOf}
@@ -31,7 +31,7 @@ pub record Coefs : Type 0 where
   pub release7 : coefOf (k0p45 ⊗ releaseOf 7) ≡ ofBits binary32 0x3f7ffaf1
 
 pub coefs : Coefs
-unfolding poleOf coefOf attackOf attacks releaseOf releases maxOf expOf fallOf powerOf fractionOf significandOf horner sizeOf twoTo lib.Ieee.ofBits lib.Ieee.neg lib.Ieee.lt lib.Ieee.le lib.Ieee.ne lib.Ieee.sub lib.Ieee.add lib.Ieee.mul lib.Ieee.div lib.Ieee.round
+unfolding poleOf coefOf attackOf attacks releaseOf releases maxOf expOf fallOf powerOf fractionOf horner sizeOf lib.Ieee.ofBits lib.Ieee.neg lib.Ieee.lt lib.Ieee.le lib.Ieee.ne lib.Ieee.sub lib.Ieee.add lib.Ieee.mul lib.Ieee.div lib.Ieee.round
 coefs = record {
   pole400 = refl;
   pole2500 = refl;

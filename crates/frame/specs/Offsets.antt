@@ -9,10 +9,6 @@ use Rattle.frame.specs.declared.TomSpec.{TomSpec}
 use Rattle.frame.specs.declared.CymPath.{CymPath}
 use Rattle.frame.specs.declared.FltAt.{FltAt}
 
--- the shortest frame that is taken
-abbrev pub frameLen : ℕ
-frameLen = 664
-
 -- BD, SD and RS, as the source has them; a number past the end means the last
 unfoldable pub duals : List DualSpec
 duals =

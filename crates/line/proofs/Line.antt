@@ -5,13 +5,13 @@ use native.Mathlib.Nat.{le-add-left, zero-mul}
 use native.Mathlib.Omega.{arith}
 use mathlib.Core.Bool.{Bool, true, false, not, _||_}
 use lib.IntN.{pos}
-use lib.Dec.{T, leb, ltb, leb→le}
+use lib.Dec.{T, leb, leb→le}
 use lib.Pow.{pow-mono}
-use lib.Ieee.{unlike, Float, fin, Format, prec, low, round, neg, add, sub, mul, lt, le, eq, fits, below}
+use lib.Ieee.{unlike, Float, fin, Format, prec, low, round, neg, add, sub, mul, le, eq, fits, below}
 use lib.Ieee.Fits.{round-fits}
 use lib.Ieee.Scale.{overflow, finite}
 use Rattle.line.proofs.Units.{Is, add-is, neg-is, lt-is, eq-is}
-use Rattle.line.proofs.Places.{Pos, spot, spot-pos, le-pos, lt-pos, sum-pos}
+use Rattle.line.proofs.Places.{Pos, spot, spot-pos, le-pos, sum-pos}
 use Rattle.line.proofs.Rounds.{Room, Rep, rep-zero, rnd, rnd-near, rnd-under, round-is-rnd, rnd-below, rnd-above, sign, Sized, fits-sized, rep-same, finite-between}
 use Rattle.line.proofs.Exact.{mul-unit}
 
@@ -29,9 +29,6 @@ at-le f o x y p p' h k =
     ap (λ (z : Bool). z || eq x y) (lt-is f x y (h .s) (h .q) (k .s) (k .q) (h .is) (k .is))
     ∙ ap (λ (z : Bool). below (h .s) (h .q) (k .s) (k .q) || z) (eq-is f x y (h .s) (h .q) (k .s) (k .q) (h .is) (k .is))
     ∙ le-pos o (h .s) (h .q) (k .s) (k .q) p p' (h .place) (k .place)
-
-pub at-lt : (f : Format) (o : ℕ) (x y : Float) (p p' : ℕ) → At f o x p → At f o y p' → lt x y ≡ ltb p p'
-at-lt f o x y p p' h k = lt-is f x y (h .s) (h .q) (k .s) (k .q) (h .is) (k .is) ∙ lt-pos o (h .s) (h .q) (k .s) (k .q) p p' (h .place) (k .place)
 
 pub at-zero : (f : Format) (o : ℕ) → At f o (fin false 0 (pos 0)) o
 at-zero f o = record { s = false; q = 0; is = (refl, zero-mul (2 ^ low f)); rep = rep-zero f; place = omega arith }

@@ -1,20 +1,19 @@
 -- The operations keep the order of floats: of a sum, a difference, a product and a quotient, the ends of a range give the ends. No room is asked for: what overflows is an infinity, in order with the rest. Assumes nothing.
-use mathlib.Core.Path.{_≡_, refl, sym, ap, _∙_, subst, subst₂}
+use mathlib.Core.Path.{_≡_, refl, sym, ap, _∙_, subst}
 use Prim.Native.Nat.{ℕ, zero, suc, _+_, _-_, _*_, _^_, _≤_, _<_}
-use native.Mathlib.Nat.{le-refl, mul-comm, mul-assoc, mul-right-comm, mul-le-mul-right, mul-pos, zero-mul, add-mul}
+use native.Mathlib.Nat.{mul-comm, mul-le-mul-right, mul-pos, zero-mul, add-mul}
 use native.Mathlib.Omega.{arith}
 use mathlib.Core.Bool.{Bool, true, false, not, _&&_, _||_, cond}
-use lib.IntN.{pos}
 use lib.Dec.{T, leb, ltb, eqb, leb→le, le→leb, nltb→le}
 use lib.Pow.{pow-pos}
 use lib.Ieee.{binary32, binary64, mul, div, unlike, Float, nan, inf, fin, Format, prec, emax, low, up, down, odd, units, round, neg, sum, add, lt, le, eq, fits, below}
-use lib.Ieee.Fits.{round-is, round-fits, neg-fits}
+use lib.Ieee.Fits.{round-is, neg-fits}
 use lib.Ieee.Order.{drop, kept, round-mono}
 use lib.Ieee.Scale.{finite, round-same}
 use lib.Ieee.Positive.{positive, value-pos}
 use Rattle.line.proofs.Units.{Is, add-is, neg-is, mul-is, div-is, lt-is, eq-is}
 use Rattle.line.proofs.Places.{Pos, spot, spot-pos, eqb-sym, le-pos, lt-pos, sum-pos}
-use Rattle.line.proofs.Rounds.{Rep, sign, fits-sized, has-finite, finite-between, exact-at, rep-same}
+use Rattle.line.proofs.Rounds.{sign, fits-sized, has-finite}
 
 -- ---- ±a is at most ±b
 abbrev pub Under : Bool → ℕ → Bool → ℕ → Type 0
@@ -357,50 +356,3 @@ nlt→le f x y g h n =
     subst T (sym (le-at f x y (sign x) q (sign y) r o (spot o (sign x) q) (spot o (sign y) r) (good-is f x g) (good-is f y h) a b))
     (le→leb (spot o (sign x) q) (spot o (sign y) r)
     (nltb→le (spot o (sign y) r) (spot o (sign x) q) (subst (λ (w : Bool). T (not w)) (lt-at f y x (sign y) r (sign x) q o (spot o (sign y) r) (spot o (sign x) q) (good-is f y h) (good-is f x g) b a) n)))
-
-abbrev nil : Float
-nil = fin false 0 (pos 0)
-
--- a size rounded is not below zero
-nil-is : (f : Format) → round f false 0 1 ≡ nil
-unfolding round
-nil-is binary32 = refl
-nil-is binary64 = refl
-
-nil-le : (f : Format) (a c : ℕ) → 0 < c → T (le nil (round f false a c))
-nil-le f a c C = subst (λ (t : Float). T (le t (round f false a c))) (round-nought f false c C ∙ nil-is f) (round-le f false 0 false a c C (nought-le-any a))
-
--- ---- a rounded fraction crosses no value that the format holds: a / c against z, which is v units
-module _ (f : Format) (a c : ℕ) (C : 0 < c) (z : Float) (v : ℕ) (g : Good f z) (h : Is f z false v) where
-  held : Rep f v
-  held = rep-same f z false v (g .0) h
-
-  own : Float
-  own = round f false v (2 ^ low f)
-
-  own-is : Is f own false v
-  unfolding own
-  own-is = exact-at f false v held
-
-  own-good : Good f own
-  unfolding own
-  own-good = (round-fits f false v (2 ^ low f), has-finite own false v (2 ^ low f) own-is)
-
-  -- v units over a c that is common to both
-  same : round f false (v * c) (2 ^ low f * c) ≡ own
-  unfolding own
-  same = round-same f false (v * c) (2 ^ low f * c) v (2 ^ low f) (mul-pos (pow-pos (low f)) C) (pow-pos (low f)) (mul-right-comm v c (2 ^ low f) ∙ mul-assoc v (2 ^ low f) c)
-
-  also : round f false (a * 2 ^ low f) (2 ^ low f * c) ≡ round f false a c
-  also = round-same f false (a * 2 ^ low f) (2 ^ low f * c) a c (mul-pos (pow-pos (low f)) C) C (mul-assoc a (2 ^ low f) c)
-
-  pub round-at-most : a * 2 ^ low f ≤ v * c → T (le (round f false a c) z)
-  round-at-most l =
-      let p = subst₂ (λ (x y : Float). T (le x y)) also same (round-le f false (a * 2 ^ low f) false (v * c) (2 ^ low f * c) (mul-pos (pow-pos (low f)) C) l) in
-      let r : Good f (round f false a c) = (round-fits f false a c, finite-between nil (round f false a c) own tt (own-good .1) (nil-le f a c C) p) in
-      le-trans-good f (round f false a c) own z r own-good g p (under→le f own z false v false v own-is h (le-refl v))
-
-  pub round-at-least : T (finite (round f false a c)) → v * c ≤ a * 2 ^ low f → T (le z (round f false a c))
-  round-at-least r l =
-      le-trans-good f z own (round f false a c) g own-good (round-fits f false a c, r) (under→le f z own false v false v h own-is (le-refl v))
-      (subst₂ (λ (x y : Float). T (le x y)) same also (round-le f false (v * c) false (a * 2 ^ low f) (2 ^ low f * c) (mul-pos (pow-pos (low f)) C) l))

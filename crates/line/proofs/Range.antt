@@ -90,9 +90,6 @@ module _ (f : Format) (lo hi : Float) where
       (and-r (inside lo hi (neg a)) (inside lo hi (neg b)) i) (and-l (inside lo hi (neg a)) (inside lo hi (neg b)) i)
       (neg-le f x b (h .ok) (h .high) (h .upto)) (neg-le f a x (h .low) (h .ok) (h .from))
 
-  abbrev pub subT : Float → Float → Float → Float → Bool
-  subT a b c d = addT a b (neg d) (neg c)
-
   -- the product: the four corners lie within the ends
   along : {a b x : Float} (y : Float) → In f a b x → Good f lo → Good f hi → Good f y → T (inside lo hi (mul f a y)) → T (inside lo hi (mul f b y)) → T (inside lo hi (mul f x y))
   along {a} {b} {x} y h L H g i j = go (sign y) refl

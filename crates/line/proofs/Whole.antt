@@ -7,15 +7,11 @@ use mathlib.Core.Bool.{Bool, true, false, _&&_, _||_}
 use lib.IntN.{ℤ, pos, negsuc, negℤ, natAbs}
 use lib.Dec.{T, ltb, eqb, leb→le, ltb→lt, eqb→eq, lit<}
 use lib.Signed.{leZ}
-use lib.Ieee.{Float, nan, inf, fin, Format, prec, low, up, down, round, ofInt, toSigned, lt, le, eq}
-use lib.Ieee.Fits.{and-l, and-r, ofInt-fits, round-fits}
+use lib.Ieee.{Float, nan, inf, fin, Format, prec, low, up, down, ofInt, toSigned, lt, le, eq}
+use lib.Ieee.Fits.{and-l, and-r, ofInt-fits}
 use lib.Ieee.Exact.{HasValue}
-use lib.Ieee.Back.{round-whole}
 use Rattle.line.proofs.Bools.{or-e}
 use Rattle.line.proofs.Units.{Is}
-use Rattle.line.proofs.Places.{Pos}
-use Rattle.line.proofs.Rounds.{rep-same}
-use Rattle.line.proofs.Line.{At}
 use Rattle.line.proofs.Mono.{round-le}
 use Rattle.line.proofs.Range.{In, good, good-of, ends, inside, between, wideT}
 
@@ -42,11 +38,6 @@ whole-is : (f : Format) (x : Float) (s : Bool) (n : ℕ) → HasValue x s n 1 �
 whole-is f nan s n h = absurd h
 whole-is f (inf t) s n h = absurd h
 whole-is f (fin t m e) s n h = (h .0, ap (λ (z : ℕ). z * 2 ^ low f) (sym (mul-one (m * up e)) ∙ h .1) ∙ mul-right-comm n (down e) (2 ^ low f))
-
-pub whole-at : (f : Format) (o : ℕ) (s : Bool) (n p : ℕ) → n ≤ 2 ^ prec f → Pos o s (n * 2 ^ low f) p → At f o (round f s n 1) p
-whole-at f o s n p h k =
-    let i = whole-is f (round f s n 1) s n (round-whole f s n h) in
-    record { s = s; q = n * 2 ^ low f; is = i; rep = rep-same f (round f s n 1) s (n * 2 ^ low f) (round-fits f s n 1) i; place = k }
 
 -- ---- a float cut toward zero
 le-by : (a b : ℕ) (u : Bool) → T (ltb a b || (eqb a b && u)) → a ≤ b

@@ -17,7 +17,7 @@ use Rattle.line.proofs.Mono.{Good, le-trans-good}
 use Rattle.line.proofs.Range.{In, ends, inside, between, good, good-of, in-of}
 use Rattle.power.specs.Exact.{tenNum, tenDen}
 use Rattle.power.specs.Near.{Pow10Near}
-use Rattle.power.specs.Power.{fractionOf, powerOf, zeroF, exp2Low, exp2High, expLow, tenLow, tenHigh, log2E, log2Ten, productOf, fallOf, riseOf, exp2Of, expOf, pow10Of}
+use Rattle.power.specs.Power.{fractionOf, powerOf, zeroF, exp2Low, exp2High, expLow, tenLow, tenHigh, log2E, productOf, fallOf, exp2Of, expOf, pow10Of}
 use Rattle.power.proofs.Curves.{pow10-near}
 use Rattle.power.proofs.Order.{exp2-mono, exp-mono}
 
@@ -33,14 +33,6 @@ exp2-fits t = cond-fits (ne t t) nan _ tt (cond-fits (lt t exp2Low) zeroF _ tt (
 pub exp-fits : (t : Float) → T (fits binary32 (expOf t))
 unfolding expOf fallOf fits
 exp-fits t = cond-fits (le expLow t && le t zeroF) (powerOf (549755813888 - productOf (sizeOf t) log2E)) nan (power-fits (549755813888 - productOf (sizeOf t) log2E)) tt
-
-pub pow10-fits : (t : Float) → T (fits binary32 (pow10Of t))
-unfolding pow10Of fallOf riseOf fits
-pow10-fits t =
-    cond-fits (ne t t) nan _ tt
-    (cond-fits (lt t (fin true 37 (pos 0))) zeroF _ tt
-    (cond-fits (lt (fin false 37 (pos 0)) t) (inf false) _ tt
-    (cond-fits (lt t zeroF) (powerOf (549755813888 - productOf (sizeOf t) log2Ten)) _ (power-fits (549755813888 - productOf (sizeOf t) log2Ten)) (power-fits (549755813888 + productOf (sizeOf t) log2Ten)))))
 
 -- ---- ranges by their ends
 low-good : Good binary32 exp2Low

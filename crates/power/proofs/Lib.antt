@@ -4,7 +4,6 @@ pub mod TwoPower
 pub mod Moves
 pub mod Signs
 pub mod Table
-pub mod Missed
 pub mod Method
 pub mod Rounding
 pub mod Reduction

@@ -14,7 +14,7 @@ use Rattle.envelope.specs.Levels.{Level}
 use Rattle.envelope.specs.Levels.{ticks as tickTimes}
 use Rattle.envelope.proofs.Ranges.{record-in}
 use Rattle.envelope.proofs.Arrive.{tick-stays}
-use Rattle.envelope.proofs.Settle.{settle-in, settle-between}
+use Rattle.envelope.proofs.Settle.{settle-between}
 use Rattle.promise.specs.Promise.{ticked, follow, Toward, Plain, Quiet, targetOf}
 
 pub is-true : (b : Bool) → T b → b ≡ true
@@ -25,10 +25,6 @@ is-true false t = absurd t
 abbrev pub Ranged : Option Move → Type 0
 Ranged none = Unit
 Ranged (some m) = Bytes (m .bytes)
-
-pub follow-level : (o : Option Move) → Ranged o → (x : Float) → Level x → Level (follow o x)
-follow-level none r x l = l
-follow-level (some m) r x l = settle-in m x r l
 
 pub follow-toward : (o : Option Move) → Ranged o → (x : Float) → Level x → Toward o x (follow o x)
 follow-toward none r x l = tt

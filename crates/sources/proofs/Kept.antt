@@ -1,13 +1,13 @@
 -- What the sources of a step do to each voice: its own sample, from some state of the random source that all share; and their phases, levels and draws stay in their ranges. Assumes nothing.
-use Prim.Native.Nat.{ℕ, zero, suc, _≤_, _<_}
+use Prim.Native.Nat.{ℕ, _<_}
 use native.Mathlib.Omega.{arith}
 use mathlib.Core.Path.{_≡_, refl, sym, ap, _∙_, subst}
 use mathlib.Core.List.{List}
-use lib.ListN.{getD, set, length, length-set}
+use lib.ListN.{getD, length, length-set}
 use lib.IntN.{ℤ, pos}
 use Rattle.frame.specs.Offsets.{tomSpec}
 use Rattle.frame.proofs.Sizes.{Bytes}
-use Rattle.lists.proofs.Sweep.{turns-keep, set-keeps, Turn, turns-length, turns-at}
+use Rattle.lists.proofs.Sweep.{turns-keep, set-keeps, Turn, turns-at}
 use Rattle.wobble.specs.declared.Wobble.{Wobble}
 use Rattle.wobble.proofs.Kept.{WobbleIn}
 use Rattle.dual.specs.declared.DualOsc.{DualOsc}
@@ -58,10 +58,6 @@ module _ (f : List ℕ) (dac : List ℤ) (s : Sources) where
   cym-left =
       turns-keep (λ (x : Sources). x .cym ≡ s .cym) 3 (tomTurn f dac) (dualsOf f s) (λ k x l e. e)
       (turns-keep (λ (x : Sources). x .cym ≡ s .cym) 3 (dualTurn f) s (λ k x l e. e) refl)
-
-  pub duals-long : length (soundOf f dac s .duals) ≡ length (s .duals)
-  unfolding soundOf metalOf dualsOf
-  duals-long = ap length toms-leave ∙ turns-length (λ (y : Sources). y .duals) noDual (DualBy f) (dualTurn f) turn s 3
 
   pub dual-by : length (s .duals) ≡ 3 → (d : ℕ) → d < 3 → DualBy f d (getD (s .duals) d noDual) (getD (soundOf f dac s .duals) d noDual)
   unfolding soundOf metalOf dualsOf

@@ -1,7 +1,7 @@
 -- `log10::stored` meets its contract: each arm is its entry of the table. Assumes nothing.
 use mathlib.Core.Path.{refl}
 use native.Mathlib.Omega.{arith}
-use Rattle.power.proofs.Missed.{last}
+use Rattle.lists.proofs.Missed.{last}
 use borrow.Author.Needs.{needs}
 use Rattle.log10.proofs.stored.Statement.{statement}
 use Rattle.log10.proofs.stored.Tie as tie

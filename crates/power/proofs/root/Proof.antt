@@ -1,7 +1,7 @@
 -- `power::root` meets its contract: each arm is its entry of the table. Assumes nothing.
 use mathlib.Core.Path.{refl}
 use native.Mathlib.Omega.{arith}
-use Rattle.power.proofs.Missed.{last}
+use Rattle.lists.proofs.Missed.{last}
 use borrow.Author.Needs.{needs}
 use Rattle.power.proofs.root.Statement.{statement}
 use Rattle.power.proofs.root.Tie as tie

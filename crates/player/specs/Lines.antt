@@ -23,6 +23,7 @@ unfoldable pub answerLine : ℕ → List ℤ → Mix → List ℕ
 answerLine number rx mix =
     decimalOf number ++ (wordsOf rx ++ ((32 ∷ []) ++ (hexOf 8 (toBits binary32 (mix .l)) ++ ((32 ∷ []) ++ (hexOf 8 (toBits binary32 (mix .r)) ++ (10 ∷ []))))))
 
+-- the line of a step, of either kind
 unfoldable pub lineOf : Bool → ℕ → Played → List ℕ
 lineOf full i a = cond full (answerLine (numberOf (a .outcome)) (a .rx) (a .mix)) (stepLine i (numberOf (a .outcome)) (a .rx))
 

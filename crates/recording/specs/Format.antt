@@ -30,6 +30,7 @@ stepsOf r = numberAt r 12
 abbrev pub bodiesOf : List ℕ → ℕ
 bodiesOf r = numberAt r 16
 
+-- from the least to the most
 unfoldable pub inBounds : ℕ → ℕ → ℕ → Bool
 inBounds x least most = leb least x && leb x most
 

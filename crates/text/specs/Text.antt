@@ -19,6 +19,7 @@ unfoldable pub readOf : ℕ → List ℕ → ℕ
 readOf n [] = n
 readOf n (d ∷ ds) = readOf (n * 10 + (d - 48)) ds
 
+-- a hexadecimal digit, small letters
 unfoldable pub glyph : ℕ → ℕ
 glyph d = cond (ltb d 10) (48 + d) (87 + d)
 

@@ -10,7 +10,7 @@ use lib.ListN.{length}
 use lib.Dec.{ltb, eqb}
 use borrow.Author.Tests.{lt-ltb, eq-eqb, ltb-true, eqb-true}
 use Rattle.board.specs.Board.{freshOf}
-use Rattle.frame.proofs.Sizes.{Bytes, word-in}
+use Rattle.frame.proofs.Sizes.{Bytes}
 use Rattle.promise.specs.Calls.{reachedOf, answersOf}
 use Rattle.promise.proofs.Whole.{promised}
 use Rattle.board.specs.declared.Analog.{Analog}
@@ -78,7 +78,7 @@ module _ (r : List ℕ) (B : Bytes r) (w : Sound r) where
 
   seed-fits : seedOf r < 2 ^ 32
   unfolding numberAt
-  seed-fits = omega (arith, word-in r B 8, word-in r B 10)
+  seed-fits = omega (arith, B 8, B 9, B 10, B 11)
 
   replays : (n : ℕ) → n ≤ stepsOf r → Replays r B n
   unfolding readyOf

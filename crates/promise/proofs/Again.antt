@@ -4,10 +4,11 @@ use native.Mathlib.Omega.{arith}
 use mathlib.Core.Path.{_≡_, refl, sym, ap, _∙_, subst}
 use mathlib.Core.Bool.{Bool, true, false, not, _&&_, _||_, cond, true≢false}
 use mathlib.Core.List.{List, [], _∷_}
-use mathlib.Core.Option.{Option, none, some}
+use mathlib.Core.Option.{Option, none}
 use lib.ListN.{getD}
 use lib.Dec.{T, eqb, eqb→eq}
 use lib.Ieee.{Float}
+use lib.Ieee.Bits.{is-true}
 use borrow.Author.Tests.{eq-eqb}
 use Rattle.envelope.specs.declared.Key.{Key}
 use Rattle.envelope.specs.declared.SegEnv.{SegEnv}
@@ -25,12 +26,11 @@ use Rattle.chain.specs.declared.Chain.{Chain}
 use Rattle.chain.specs.Chain as Chain
 use Rattle.chain.specs.Chain.{noChain}
 use Rattle.board.specs.declared.Analog.{Analog}
-use Rattle.board.specs.declared.Answer.{Answer}
 use Rattle.board.specs.Board.{takenOf}
 use Rattle.promise.specs.Calls.{Call, answer, accepted, nextOf, reachedOf}
 use Rattle.promise.specs.Levels.{Which, pitch, amp, amp2, hat, cymbal, chainAmp, chainFilter, levelAt, recordAt, moveAt}
 use Rattle.promise.specs.Promise.{moveOf, ticked, Plain, Quiet, Steady, ticksIn, targetOf, Runs, frameOf, Carry, acceptsIn, Free, Loose}
-use Rattle.promise.proofs.Moves.{is-true, plain-ticks}
+use Rattle.promise.proofs.Moves.{plain-ticks}
 use Rattle.promise.proofs.Step.{Good, Stepped, Way, took, left, way, call-good, move-took, move-left, move-bytes}
 use Rattle.promise.proofs.Run.{run-arrives}
 

@@ -1,11 +1,11 @@
 -- What one move does to a level. Assumes nothing.
 use Prim.Native.Nat.{ℕ, zero, suc, _<_}
 use mathlib.Core.Path.{_≡_, refl, sym, ap, _∙_, subst}
-use mathlib.Core.Bool.{Bool, true, false, cond}
+use mathlib.Core.Bool.{Bool, true, cond}
 use mathlib.Core.List.{List}
 use mathlib.Core.Option.{Option, none, some}
-use lib.Dec.{T}
 use lib.Ieee.{Float}
+use lib.Ieee.Bits.{is-true}
 use Rattle.frame.proofs.Sizes.{Bytes}
 use Rattle.envelope.specs.Record.{recordOf, tickLevel}
 use Rattle.envelope.specs.Moves.{Move, settle}
@@ -16,10 +16,6 @@ use Rattle.envelope.proofs.Ranges.{record-in}
 use Rattle.envelope.proofs.Arrive.{tick-stays}
 use Rattle.envelope.proofs.Settle.{settle-between}
 use Rattle.promise.specs.Promise.{ticked, follow, Toward, Plain, Quiet, targetOf}
-
-pub is-true : (b : Bool) → T b → b ≡ true
-is-true true t = refl
-is-true false t = absurd t
 
 -- the record of a move is of bytes
 abbrev pub Ranged : Option Move → Type 0

@@ -1,6 +1,6 @@
 -- One sample of a tom keeps the random source. Its two states are not spoken of. Assumes nothing.
 use Prim.Native.Nat.{ℕ}
-use mathlib.Core.Bool.{Bool, true, false, _||_, cond}
+use mathlib.Core.Bool.{_||_}
 use mathlib.Core.List.{List}
 use lib.IntN.{ℤ}
 use lib.Dec.{ltb}
@@ -9,15 +9,11 @@ use Rattle.float.specs.Consts.{k10, k65535}
 use Rattle.frame.specs.Frame.{wordF}
 use Rattle.frame.specs.Offsets.{tomSpec}
 use Rattle.wobble.specs.declared.Wobble.{Wobble}
-use Rattle.wobble.proofs.Kept.{WobbleIn, detune-in}
+use Rattle.wobble.proofs.Kept.{WobbleIn, either, detune-in}
 use Rattle.tom.specs.declared.Tom.{Tom}
 use Rattle.tom.specs.declared.TomOut.{TomOut}
 use Rattle.tom.specs.declared.Excited.{Excited}
 use Rattle.tom.specs.Tom.{isZero, exciteOf, hzOf, sampleOf}
-
-either : {A : Type 0} (P : A → Type 0) (b : Bool) (x y : A) → P x → P y → P (cond b x y)
-either P true x y h k = h
-either P false x y h k = k
 
 excite-in : (det : Float) (quiet : ℕ) (d : ℤ) (w : Wobble) → WobbleIn w → WobbleIn (exciteOf det quiet d w .w)
 unfolding exciteOf

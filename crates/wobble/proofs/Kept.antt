@@ -76,7 +76,8 @@ pub record DriftIn (d : Drift) : Type 0 where
   pub cents : In binary32 kM128 (neg kM128) (d .cents)
   pub ratio : Ratio (d .ratio)
 
-either : {A : Type 0} (P : A → Type 0) (b : Bool) (x y : A) → P x → P y → P (cond b x y)
+-- what holds of both holds of the one that is chosen
+pub either : {A : Type 0} (P : A → Type 0) (b : Bool) (x y : A) → P x → P y → P (cond b x y)
 either P true x y h k = h
 either P false x y h k = k
 

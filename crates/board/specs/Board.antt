@@ -20,7 +20,7 @@ use Rattle.sources.specs.declared.Sources.{Sources}
 use Rattle.chain.specs.Chain.{chainNew}
 use Rattle.bus.specs.Bus.{voicesOf, masterOf}
 use Rattle.comp.specs.Comp.{compNew, processOf}
-use Rattle.comp.specs.declared.Mix.{Mix}
+use Rattle.stereo.specs.declared.Mix.{Mix}
 use Rattle.board.specs.declared.Analog.{Analog}
 use Rattle.board.specs.declared.Inputs.{Inputs}
 use Rattle.board.specs.declared.Answer.{Answer}

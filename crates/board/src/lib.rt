@@ -1,7 +1,7 @@
 // The voice board, and one step with its refusals.
 use chain::Chain;
 use comp::Comp;
-use comp::Mix;
+use stereo::Mix;
 use cym::Cym;
 use dual::DualOsc;
 use hat::Hat;

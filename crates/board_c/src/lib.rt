@@ -1,7 +1,7 @@
 // The board under C names: a fresh board, and a step. The caller tests nothing beforehand.
 use board::Analog;
 use board::Inputs;
-use comp::Mix;
+use stereo::Mix;
 ghost use mathlib.Core.Path.{_≡_};
 ghost use mathlib.Core.List.{List};
 ghost use Prim.Native.Nat.{ℕ};

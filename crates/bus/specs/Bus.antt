@@ -13,7 +13,7 @@ use Rattle.lists.specs.Turns.{turnsOf}
 use Rattle.tanh.specs.Tanh.{tanhOf}
 use Rattle.chain.specs.declared.Chain.{Chain}
 use Rattle.chain.specs.Chain.{noChain, processOf}
-use Rattle.comp.specs.declared.Mix.{Mix}
+use Rattle.stereo.specs.declared.Mix.{Mix}
 use Rattle.bus.specs.declared.Bus.{Bus}
 
 -- DAC word i / 2 ^ 23

@@ -1,6 +1,6 @@
 // From the sources to the main bus: each voice's chain, its receive word and its share of the mix, then the master distortion.
 use chain::Chain;
-use comp::Mix;
+use stereo::Mix;
 ghost use mathlib.Core.Path.{_≡_};
 ghost use mathlib.Core.Bool.{Bool};
 ghost use Prim.Native.Nat.{_≤_, _<_};

@@ -4,7 +4,7 @@ use mathlib.Core.Bool.{true, false, cond}
 use mathlib.Core.List.{List}
 use lib.Ieee.{Float, nan, neg, lt, le}
 use lib.Ieee.Scale.{finite}
-use Rattle.float.specs.Consts.{k0, k1, k2, k8, k10, k12, k16, k60, k64, k127, k440, k512, k21600, k22000, k32512, k48000, k65536, k0p3, k0p97, k1p01, kPi, kTau}
+use Rattle.float.specs.Consts.{k0, k1, k2, k8, k10, k12, k16, k60, k64, k127, k440, k512, k21600, k22000, k32512, FS, k65536, k0p3, k0p97, k1p01, PI, TAU}
 use Rattle.float.specs.Ops.{_⊕_, _⊖_, _⊗_, _⊘_}
 use Rattle.float.specs.Floats.{minOf, maxOf, clampOf}
 use Rattle.frame.specs.Frame.{wordF, signedF, bytesAt, fltCode, fltTypeOf}
@@ -67,7 +67,7 @@ resOf word = clampOf (word ⊘ k32512) k0 k1
 -- tangent, damping and quotients, of the cutoff and the resonance
 unfoldable pub coefsOf : Float → Float → Coefs
 coefsOf fc res =
-    let g = tanOf (kPi ⊗ minOf fc k21600 ⊘ k48000) in
+    let g = tanOf (PI ⊗ minOf fc k21600 ⊘ FS) in
     let k = k2 ⊗ (k1 ⊖ k0p97 ⊗ res) in
     let a1 = k1 ⊘ (k1 ⊕ g ⊗ (g ⊕ k)) in
     record { k = k; a1 = a1; a2 = g ⊗ a1; a3 = g ⊗ g ⊗ a1 }
@@ -82,7 +82,7 @@ svfOf low band x c =
 
 -- the one-pole
 unfoldable pub lp1Of : Float → Float → Float → Float
-lp1Of lp1 x fc = lp1 ⊕ (k1 ⊖ expOf (neg kTau ⊗ fc ⊘ k48000)) ⊗ (x ⊖ lp1)
+lp1Of lp1 x fc = lp1 ⊕ (k1 ⊖ expOf (neg TAU ⊗ fc ⊘ FS)) ⊗ (x ⊖ lp1)
 
 -- the output of each filter type
 unfoldable pub pickOf : FltType → Svf → Float → Float → Float → Float → Float

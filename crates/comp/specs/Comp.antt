@@ -6,7 +6,7 @@ use lib.ListN.{getD}
 use lib.Dec.{eqb}
 use lib.IntN.{pos}
 use lib.Ieee.{Float, binary32, neg, lt, le, ofInt}
-use Rattle.float.specs.Consts.{k0, k1, k2, k127, k48000, k0p45, kTau}
+use Rattle.float.specs.Consts.{k0, k1, k2, k127, FS, k0p45, TAU}
 use Rattle.float.specs.Ops.{_⊕_, _⊖_, _⊗_, _⊘_}
 use Rattle.float.specs.Floats.{absOf, signumOf, maxOf, clampOf}
 use Rattle.lists.specs.Turns.{turnsOf}
@@ -49,7 +49,7 @@ sideOf x l r = x ⊗ maxOf (signumOf l) (signumOf r)
 
 -- a one-pole low-pass: how far a sample moves it
 unfoldable pub poleOf : Float → Float
-poleOf hz = k1 ⊖ expOf (neg kTau ⊗ hz ⊘ k48000)
+poleOf hz = k1 ⊖ expOf (neg TAU ⊗ hz ⊘ FS)
 
 -- the sidechain's low-passes at 400 and 2500 Hz
 unfoldable pub sidechainOf : Sc → Float → Sc
@@ -63,7 +63,7 @@ detectOf seq x s sc =
 
 -- what a sample keeps of the envelope, of a time in seconds
 unfoldable pub coefOf : Float → Float
-coefOf t = expOf (neg k1 ⊘ (maxOf t k0p00001 ⊗ k48000))
+coefOf t = expOf (neg k1 ⊘ (maxOf t k0p00001 ⊗ FS))
 
 -- the attack where the envelope rises, else the release, 0.45 of its label
 unfoldable pub smoothOf : Bool → ℕ → ℕ → Float

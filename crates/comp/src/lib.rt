@@ -1,4 +1,5 @@
 // The master compressor: a peak detector with its sidechain filter, a static curve with a soft knee, make-up, dry against wet, volume.
+use stereo::Mix;
 ghost use mathlib.Core.Path.{_≡_};
 ghost use mathlib.Core.Bool.{Bool};
 ghost use Prim.Native.Nat.{_≤_, _<_};
@@ -20,12 +21,6 @@ pub struct Sc {
 pub struct Comp {
     pub env: f32,
     pub sc: Sc,
-}
-
-#[repr(C)]
-pub struct Mix {
-    pub l: f32,
-    pub r: f32,
 }
 
 pub struct CompOut {

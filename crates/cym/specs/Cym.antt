@@ -6,7 +6,7 @@ use lib.ListN.{getD, set, replicate}
 use lib.Dec.{eqb, leb}
 use lib.IntN.{pos}
 use lib.Ieee.{Float, binary32, nan, le, ofInt}
-use Rattle.float.specs.Consts.{k0, k1, k2, k127, k1200, k16000, k32767, k32768, k48000, k0p75, k0p8, kM128, kM127p5, kPi}
+use Rattle.float.specs.Consts.{k0, k1, k2, k127, k1200, k16000, k32767, k32768, FS, k0p75, k0p8, kM128, kM127p5, PI}
 use Rattle.float.specs.Ops.{_⊕_, _⊗_, _⊘_}
 use Rattle.float.specs.Floats.{minOf, maxOf}
 use Rattle.frame.specs.Frame.{wordF, signedF, bytesAt}
@@ -68,7 +68,7 @@ quietOf env = turnsOf 8 (λ r all. all && le (getD env r noEnv .level) kM127p5) 
 
 -- a path's coefficient by its centre; `fixed`: the colour does not move it
 unfoldable pub gOf : Float → Bool → Float → Float
-gOf hz fixed colour = k2 ⊗ sinOf (kPi ⊗ minOf (cond fixed hz (hz ⊗ exp2Of (k0p75 ⊗ colour))) k16000 ⊘ k48000)
+gOf hz fixed colour = k2 ⊗ sinOf (PI ⊗ minOf (cond fixed hz (hz ⊗ exp2Of (k0p75 ⊗ colour))) k16000 ⊘ FS)
 
 -- path p: skipped at its floor; record 7 is the cowbell's band-pass with at most two oscillators running
 unfoldable pub pathOf : Metal → List Env → ℕ → Paths → Paths

@@ -10,7 +10,7 @@ use lib.Ieee.{Float, nan, binary32, neg, le, lt, eq, fits, ofBits, ofInt, round}
 use Rattle.line.proofs.Range.{In, in-of}
 use Rattle.line.proofs.Rem.{nought-in}
 use Rattle.line.proofs.Whole.{ofInt-in}
-use Rattle.float.specs.Consts.{k0, k1, k3, k127, k48000, k65535, k0p45, kM128, kTunePerLevel, kHzPerTune}
+use Rattle.float.specs.Consts.{k0, k1, k3, k127, FS, k65535, k0p45, kM128, kTunePerLevel, kHzPerTune}
 use Rattle.float.specs.Ops.{_⊗_, _⊘_}
 use Rattle.float.specs.Floats.{minOf, clampOf}
 use Rattle.float.proofs.Eval.{leaf, con, plus, times, over, capped, floored, clamped, range, proves}
@@ -70,9 +70,9 @@ depth-in : (w : ℕ) (l : Float) → w ≤ 65535 → Level l → In binary32 k0 
 unfolding ofBits proves
 depth-in w l h k = range k0 k65535 (times (leaf (word-range w h)) (clamped (over (leaf (level-range l k)) k127) k0 k1)) tt
 
-cut-in : (v : Float) → In binary32 k0 k65535 v → In binary32 k0 k65535 (minOf v (k48000 ⊗ k0p45))
+cut-in : (v : Float) → In binary32 k0 k65535 v → In binary32 k0 k65535 (minOf v (FS ⊗ k0p45))
 unfolding ofBits proves
-cut-in v h = range k0 k65535 (capped (leaf h) (k48000 ⊗ k0p45)) tt
+cut-in v h = range k0 k65535 (capped (leaf h) (FS ⊗ k0p45)) tt
 
 -- ---- the two phases
 pub record PhasesIn (s : Sound) : Type 0 where

@@ -6,7 +6,7 @@ use lib.ListN.{getD}
 use lib.Dec.{eqb}
 use lib.IntN.{pos}
 use lib.Ieee.{Float, binary32, nan, le, ofInt}
-use Rattle.float.specs.Consts.{k0, k1, k2, k3, k16, k127, k32767, k48000, k0p3, k0p7, kM128, kM127p5, kTau, kHzPerTune, kTunePerLevel}
+use Rattle.float.specs.Consts.{k0, k1, k2, k3, k16, k127, k32767, FS, k0p3, k0p7, kM128, kM127p5, TAU, kHzPerTune, kTunePerLevel}
 use Rattle.float.specs.Ops.{_⊕_, _⊖_, _⊗_, _⊘_}
 use Rattle.float.specs.Floats.{maxOf, clampOf}
 use Rattle.frame.specs.Frame.{wordAt, bitAt, bytesAt}
@@ -103,16 +103,16 @@ pairedOf i ph1 ph2 f1 f2 amp2 =
       «depth_word» = ofInt binary32 (pos (i .level2)) ⊗ clampOf (amp2 ⊘ k127) k0 k1;
       fm = i .fm;
       ring = i .ring;
-    }) k48000 in
+    }) FS in
     record { ph1 = o .pair .ph1; ph2 = o .pair .ph2; y = o .y }
 
 -- "without them oscillator 1 is a sine, with saw added where its wave switch is set"
 unfoldable pub plainOf : Setting → Float → Float → Float → Float → Sound
 plainOf i ph1 ph2 f1 f2 =
-    let o2 = sinOf (kTau ⊗ ph2) in
-    let o = sinOf (kTau ⊗ ph1) in
+    let o2 = sinOf (TAU ⊗ ph2) in
+    let o = sinOf (TAU ⊗ ph1) in
     let o1 = cond (i .wave1) (k0p7 ⊗ o ⊕ k0p3 ⊗ (k2 ⊗ ph1 ⊖ k1)) o in
-    record { ph1 = advanced ph1 f1 k48000; ph2 = advanced ph2 f2 k48000; y = o1 ⊗ wordLevel (i .level1) ⊕ o2 ⊗ wordLevel (i .level2) }
+    record { ph1 = advanced ph1 f1 FS; ph2 = advanced ph2 f2 FS; y = o1 ⊗ wordLevel (i .level1) ⊕ o2 ⊗ wordLevel (i .level2) }
 
 -- "The core of 001 runs only with FM or ring on"
 unfoldable pub soundOf : Setting → Float → Float → Float → Float → Float → Sound

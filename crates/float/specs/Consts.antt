@@ -118,8 +118,8 @@ abbrev pub k32768 : Float
 k32768 = ofBits binary32 0x47000000
 
 -- 48000.0
-abbrev pub k48000 : Float
-k48000 = ofBits binary32 0x473b8000
+abbrev pub FS : Float
+FS = ofBits binary32 0x473b8000
 
 -- 65535.0
 abbrev pub k65535 : Float
@@ -226,12 +226,12 @@ abbrev pub kM127p5 : Float
 kM127p5 = neg (ofBits binary32 0x42ff0000)
 
 -- TAU
-abbrev pub kTau : Float
-kTau = ofBits binary32 0x40c90fdb
+abbrev pub TAU : Float
+TAU = ofBits binary32 0x40c90fdb
 
 -- PI
-abbrev pub kPi : Float
-kPi = ofBits binary32 0x40490fdb
+abbrev pub PI : Float
+PI = ofBits binary32 0x40490fdb
 
 -- u32::MAX as f32
 abbrev pub kUMax : Float
@@ -286,7 +286,7 @@ pub record Constants : Type 0 where
   pub c32512 : k32512 ≡ near 32512 1
   pub c32767 : k32767 ≡ near 32767 1
   pub c32768 : k32768 ≡ near 32768 1
-  pub c48000 : k48000 ≡ near 48000 1
+  pub cFS : FS ≡ near 48000 1
   pub c65535 : k65535 ≡ near 65535 1
   pub c65536 : k65536 ≡ near 65536 1
   pub c8388607 : k8388607 ≡ near 8388607 1
@@ -313,10 +313,10 @@ pub record Constants : Type 0 where
   pub c127p5 : k127p5 ≡ near 255 2
   pub cM128 : kM128 ≡ neg (near 128 1)
   pub cM127p5 : kM127p5 ≡ neg (near 255 2)
-  pub cTau : kTau ≡ near 628318530717958 100000000000000
-  pub cPi : kPi ≡ near 314159265358979 100000000000000
+  pub cTAU : TAU ≡ near 628318530717958 100000000000000
+  pub cPI : PI ≡ near 314159265358979 100000000000000
   pub cUMax : kUMax ≡ ofInt binary32 (pos 4294967295)
   pub cHzPerTune : kHzPerTune ≡ div binary32 (near 55 1) (near 678 1)
   pub cTunePerLevel : kTunePerLevel ≡ div binary32 (mul binary32 (near 678 1) (near 7 1)) (near 15 1)
-  pub cDriftA : kDriftA ≡ div binary32 (div binary32 k32 k48000) k0p5
-  pub c21600 : k21600 ≡ mul binary32 k48000 k0p45
+  pub cDriftA : kDriftA ≡ div binary32 (div binary32 k32 FS) k0p5
+  pub c21600 : k21600 ≡ mul binary32 FS k0p45

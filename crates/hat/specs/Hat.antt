@@ -5,7 +5,7 @@ use mathlib.Core.List.{List}
 use lib.ListN.{replicate}
 use lib.Dec.{eqb}
 use lib.Ieee.{Float, le}
-use Rattle.float.specs.Consts.{k0, k1, k2, k6, k16, k127, k500, k6000, k16000, k32767, k32768, k48000, k1p2, k1p5, kM128, kM127p5, kPi}
+use Rattle.float.specs.Consts.{k0, k1, k2, k6, k16, k127, k500, k6000, k16000, k32767, k32768, FS, k1p2, k1p5, kM128, kM127p5, PI}
 use Rattle.float.specs.Ops.{_⊖_, _⊗_, _⊘_}
 use Rattle.float.specs.Floats.{clampOf}
 use Rattle.frame.specs.Frame.{wordF, signedF, bytesAt}
@@ -24,7 +24,7 @@ hatNew = record { ph = replicate 6 k0; det = replicate 6 k1; env = record { leve
 
 -- the high-pass coefficient of the colour CV: 6 kHz at 0, an octave and a half per full scale
 unfoldable pub colourOf : List ℕ → Float
-colourOf f = let fc = clampOf (k6000 ⊗ exp2Of (k1p5 ⊗ (signedF f 130 ⊘ k32768))) k500 k16000 in k2 ⊗ sinOf (kPi ⊗ fc ⊘ k48000)
+colourOf f = let fc = clampOf (k6000 ⊗ exp2Of (k1p5 ⊗ (signedF f 130 ⊘ k32768))) k500 k16000 in k2 ⊗ sinOf (PI ⊗ fc ⊘ FS)
 
 -- the bank through the high-pass, times the VCA and the level's gain
 unfoldable pub soundOf : List ℕ → Hat → Wobble → HatOut

@@ -6,7 +6,7 @@ use lib.ListN.{getD, set}
 use lib.Dec.{eqb}
 use lib.IntN.{pos}
 use lib.Ieee.{Float, binary32, nan, neg, lt, ofInt}
-use Rattle.float.specs.Consts.{k0, k1, k3, k48000, k0p5, k43p62}
+use Rattle.float.specs.Consts.{k0, k1, k3, FS, k0p5, k43p62}
 use Rattle.float.specs.Ops.{_⊕_, _⊖_, _⊗_, _⊘_}
 use Rattle.frame.specs.Frame.{fieldAt}
 use Rattle.lists.specs.Turns.{turnsOf}
@@ -37,7 +37,7 @@ hitDraws hit silent ph det w =
 -- oscillator k of the bank: its phase advances, and its square joins the sum; where `skip` is true a field of 0 leaves it off
 unfoldable pub turnOf : ℕ → List Float → Bool → ℕ → Bank → Bank
 turnOf v det skip k b =
-    let ph = advanced (getD (b .ph) k nan) (ofInt binary32 (pos v) ⊘ k43p62 ⊗ getD det k nan) k48000 in
+    let ph = advanced (getD (b .ph) k nan) (ofInt binary32 (pos v) ⊘ k43p62 ⊗ getD det k nan) FS in
     cond (skip && eqb v 0) b
     (record { ph = set (b .ph) k ph; metal = b .metal ⊕ cond (lt ph k0p5) k1 (neg k1); running = b .running + 1 })
 

@@ -5,7 +5,7 @@ use mathlib.Core.List.{List, [], _∷_, _++_}
 use lib.IntN.{ℤ}
 use lib.Ieee.{binary32, toBits}
 use Rattle.text.specs.Text.{decimalOf, hexOf, wordsOf}
-use Rattle.comp.specs.declared.Mix.{Mix}
+use Rattle.stereo.specs.declared.Mix.{Mix}
 use Rattle.board.specs.Board.{numberOf}
 use Rattle.board.specs.declared.Outcome.{Outcome}
 use Rattle.board.specs.declared.Outcome.the-variants.{BadOpening, WrongLength}

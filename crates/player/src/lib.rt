@@ -1,6 +1,6 @@
 // Plays the recording on standard input and writes a line for each step, in blocks.
 use board::Outcome;
-use comp::Mix;
+use stereo::Mix;
 use recording::Playing;
 ghost use mathlib.Core.Path.{_≡_};
 ghost use mathlib.Core.Bool.{Bool};

@@ -9,7 +9,7 @@ use Rattle.float.specs.Floats.{to24Of}
 use Rattle.sources.specs.Sources.{soundOf}
 use Rattle.bus.specs.Bus.{voicesOf, masterOf}
 use Rattle.bus.proofs.Kept.{Words, words-set, words-zero, voices-in}
-use Rattle.comp.specs.declared.Mix.{Mix}
+use Rattle.stereo.specs.declared.Mix.{Mix}
 use Rattle.comp.specs.Comp.{processOf}
 use Rattle.board.specs.declared.Analog.{Analog}
 use Rattle.board.specs.declared.Inputs.{Inputs}

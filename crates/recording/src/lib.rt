@@ -3,7 +3,7 @@ use board::Analog;
 use board::Answer;
 use board::Inputs;
 use board::Outcome;
-use comp::Mix;
+use stereo::Mix;
 ghost use mathlib.Core.Path.{_≡_};
 ghost use mathlib.Core.Bool.{Bool};
 ghost use Prim.Native.Nat.{_+_, _*_, _≤_, _<_};

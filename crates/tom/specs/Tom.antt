@@ -5,7 +5,7 @@ use mathlib.Core.List.{List}
 use lib.Dec.{ltb, eqb}
 use lib.IntN.{ℤ, pos, negsuc}
 use lib.Ieee.{Float, binary32, neg, lt, le, ofInt}
-use Rattle.float.specs.Consts.{k0, k1, k2, k3, k10, k2048, k12000, k32767, k48000, k65535, k8388608, k0p03, k0p1, k0p99, k5p64, kTau}
+use Rattle.float.specs.Consts.{k0, k1, k2, k3, k10, k2048, k12000, k32767, FS, k65535, k8388608, k0p03, k0p1, k0p99, k5p64, TAU}
 use Rattle.float.specs.Ops.{_⊕_, _⊖_, _⊗_, _⊘_}
 use Rattle.float.specs.Floats.{minOf, maxOf}
 use Rattle.frame.specs.Frame.{wordF, signedF}
@@ -41,12 +41,12 @@ hzOf cv det = k0p1 ⊗ sqrtOf (k2048 ⊗ cv) ⊗ det
 
 -- the part of the ring that a sample keeps, by the decay CV
 unfoldable pub decayOf : Float → Float
-decayOf d = let tau = k0p03 ⊗ exp2Of (maxOf d k0 ⊗ k5p64) in expOf (neg k1 ⊘ (tau ⊗ k48000))
+decayOf d = let tau = k0p03 ⊗ exp2Of (maxOf d k0 ⊗ k5p64) in expOf (neg k1 ⊘ (tau ⊗ FS))
 
 -- the resonator's next sample
 unfoldable pub ringOf : Tom → Float → Float → Float → Float
 ringOf t hz r x =
-    let w = kTau ⊗ minOf hz k12000 ⊘ k48000 in
+    let w = TAU ⊗ minOf hz k12000 ⊘ FS in
     k2 ⊗ r ⊗ cosOf w ⊗ t .y1 ⊖ r ⊗ r ⊗ t .y2 ⊕ x ⊗ (k1 ⊖ r)
 
 -- `Tom::sample`: "Tune 65535, or pitch under 10 Hz, multiplies both states by 0.99"

@@ -2,7 +2,7 @@
 use mathlib.Core.Bool.{Bool, true, false}
 use lib.Ieee.{Float, binary32, neg, lt, le, eq, fits, ofBits}
 use Rattle.line.proofs.Range.{In, in-cond, in-wide, cut-high, cut-low, lt→le, not-lt, good-of}
-use Rattle.float.specs.Consts.{k0, k1, k2, k3, k4, k8, k127, k4096, k48000, k65535, k0p25, k0p3, k0p35, k0p45, k0p5, k0p7, k1p01, k1p3, kTau}
+use Rattle.float.specs.Consts.{k0, k1, k2, k3, k4, k8, k127, k4096, FS, k65535, k0p25, k0p3, k0p35, k0p45, k0p5, k0p7, k1p01, k1p3, TAU}
 use Rattle.float.specs.Ops.{_⊕_, _⊖_, _⊗_, _⊘_}
 use Rattle.float.specs.Floats.{minOf, fractOf}
 use Rattle.float.proofs.Eval.{leaf, con, plus, minus, times, over, capped, range, proves}
@@ -23,17 +23,17 @@ sine-in : (x : Float) → In binary32 k0 k8 x → Wide (sinOf x)
 unfolding ofBits
 sine-in x h = unfold fits le lt eq neg in in-wide binary32 (neg k2) k2 (sin-in x h) tt
 
-turn-in : (p : Float) → Unit p → Wide (sinOf (kTau ⊗ p))
-turn-in p h = sine-in (kTau ⊗ p) (unfold proves ofBits in range k0 k8 (times (con kTau) (leaf h)) tt)
+turn-in : (p : Float) → Unit p → Wide (sinOf (TAU ⊗ p))
+turn-in p h = sine-in (TAU ⊗ p) (unfold proves ofBits in range k0 k8 (times (con TAU) (leaf h)) tt)
 
 part-in : (p c : Float) → Unit p → Unit c → Unit (fractOf (p ⊕ c))
 unfolding ofBits proves
 part-in p c h k = fract-in k3 (p ⊕ c) (range k0 k3 (plus (leaf h) (leaf k)) tt)
 
-asym-in : (p : Float) → Unit p → In binary32 k0 k8 (kTau ⊗ asymOf p)
+asym-in : (p : Float) → Unit p → In binary32 k0 k8 (TAU ⊗ asymOf p)
 unfolding asymOf ofBits proves
 asym-in p h =
-    range k0 k8 (times (con kTau) (leaf (in-cond binary32 k0 k1p01 (lt p k0p35)
+    range k0 k8 (times (con TAU) (leaf (in-cond binary32 k0 k1p01 (lt p k0p35)
     (λ t. range k0 k1p01 (over (leaf (cut-high h k0p35 tt (lt→le p k0p35 t))) k0p7) tt)
     (λ t. range k0 k1p01 (plus (con k0p5) (over (minus (leaf (cut-low h k0p35 tt (not-lt binary32 k0p35 p (good-of binary32 k0p35 tt) (h .ok) t))) (con k0p35)) k1p3)) tt)))) tt
 
@@ -54,16 +54,16 @@ osc-in true w p h = range (neg k2) k2 (con k1) tt
 osc-in false w p h = wave-in w p h
 
 -- ---- the first phase rule, at a frequency from 0 to 65535 Hz
-pub advanced-in : (p v : Float) → Unit p → In binary32 k0 k65535 v → Unit (advanced p v k48000)
+pub advanced-in : (p v : Float) → Unit p → In binary32 k0 k65535 v → Unit (advanced p v FS)
 unfolding advanced ofBits proves
-advanced-in p v h k = fract-in k3 (p ⊕ v ⊘ k48000) (range k0 k3 (plus (leaf h) (over (leaf k) k48000)) tt)
+advanced-in p v h k = fract-in k3 (p ⊕ v ⊘ FS) (range k0 k3 (plus (leaf h) (over (leaf k) FS)) tt)
 
 -- ---- the second: frequency modulation by o2, to the depth w; 1 itself can be reached
-pub advanced-fm-in : (fm : Bool) (p v w o : Float) → Unit p → In binary32 k0 k65535 v → In binary32 k0 k65535 w → Wide o → Unit (advancedFm p (modulated fm (minOf v (k48000 ⊗ k0p45)) w o) k48000)
+pub advanced-fm-in : (fm : Bool) (p v w o : Float) → Unit p → In binary32 k0 k65535 v → In binary32 k0 k65535 w → Wide o → Unit (advancedFm p (modulated fm (minOf v (FS ⊗ k0p45)) w o) FS)
 unfolding advancedFm modulated ofBits proves
 advanced-fm-in true p v w o h a b c =
-    rem-euclid-in (p ⊕ minOf v (k48000 ⊗ k0p45) ⊗ (k1 ⊕ w ⊘ k4096 ⊗ o) ⊘ k48000)
-    (range (neg k127) k127 (plus (leaf h) (over (times (capped (leaf a) (k48000 ⊗ k0p45)) (plus (con k1) (times (over (leaf b) k4096) (leaf c)))) k48000)) tt .ok)
+    rem-euclid-in (p ⊕ minOf v (FS ⊗ k0p45) ⊗ (k1 ⊕ w ⊘ k4096 ⊗ o) ⊘ FS)
+    (range (neg k127) k127 (plus (leaf h) (over (times (capped (leaf a) (FS ⊗ k0p45)) (plus (con k1) (times (over (leaf b) k4096) (leaf c)))) FS)) tt .ok)
 advanced-fm-in false p v w o h a b c =
-    rem-euclid-in (p ⊕ minOf v (k48000 ⊗ k0p45) ⊘ k48000)
-    (range (neg k127) k127 (plus (leaf h) (over (capped (leaf a) (k48000 ⊗ k0p45)) k48000)) tt .ok)
+    rem-euclid-in (p ⊕ minOf v (FS ⊗ k0p45) ⊘ FS)
+    (range (neg k127) k127 (plus (leaf h) (over (capped (leaf a) (FS ⊗ k0p45)) FS)) tt .ok)

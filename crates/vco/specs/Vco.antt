@@ -1,7 +1,7 @@
 -- The dual-oscillator core, from vco.rs. Definitions only.
 use mathlib.Core.Bool.{Bool, true, false, _||_, cond}
 use lib.Ieee.{Float, neg, lt}
-use Rattle.float.specs.Consts.{k0, k1, k2, k4, k4096, k0p25, k0p3, k0p35, k0p45, k0p5, k0p7, k1p3, kTau}
+use Rattle.float.specs.Consts.{k0, k1, k2, k4, k4096, k0p25, k0p3, k0p35, k0p45, k0p5, k0p7, k1p3, TAU}
 use Rattle.float.specs.Ops.{_⊕_, _⊖_, _⊗_, _⊘_}
 use Rattle.float.specs.Floats.{absOf, minOf, fractOf, remEuclidOf}
 use Rattle.sine.specs.Sine.{sinOf}
@@ -29,10 +29,10 @@ asymOf ph = cond (lt ph k0p35) (ph ⊘ k0p7) (k0p5 ⊕ (ph ⊖ k0p35) ⊘ k1p3)
 -- `Wave::at`
 unfoldable pub waveAt : Wave → Float → Float
 waveAt Off ph = k0
-waveAt Sine ph = sinOf (kTau ⊗ ph)
-waveAt AsymSine ph = sinOf (kTau ⊗ asymOf ph)
+waveAt Sine ph = sinOf (TAU ⊗ ph)
+waveAt AsymSine ph = sinOf (TAU ⊗ asymOf ph)
 waveAt Triangle ph = k1 ⊖ k4 ⊗ absOf (fractOf (ph ⊕ k0p25) ⊖ k0p5)
-waveAt SineSaw ph = k0p7 ⊗ sinOf (kTau ⊗ ph) ⊕ k0p3 ⊗ (k2 ⊗ ph ⊖ k1)
+waveAt SineSaw ph = k0p7 ⊗ sinOf (TAU ⊗ ph) ⊕ k0p3 ⊗ (k2 ⊗ ph ⊖ k1)
 waveAt Saw ph = k2 ⊗ fractOf (ph ⊕ k0p5) ⊖ k1
 waveAt Square ph = cond (lt ph k0p5) k1 (neg k1)
 

@@ -14,7 +14,7 @@ use lib.Ieee.{Float, binary32, fin, neg, le, eq, mul, div, lt, fits, round, ofIn
 use Rattle.line.proofs.Range.{In, in-cond, in-wide, split}
 use Rattle.line.proofs.Rem.{nought-in}
 use Rattle.line.proofs.Whole.{ofInt-in}
-use Rattle.float.specs.Consts.{k0, k1, k2, k3, k32, k127, k1200, k48000, k0p5, k1p5, kM128, kUMax}
+use Rattle.float.specs.Consts.{k0, k1, k2, k3, k32, k127, k1200, FS, k0p5, k1p5, kM128, kUMax}
 use Rattle.float.specs.Ops.{_⊕_, _⊖_, _⊗_, _⊘_}
 use Rattle.float.proofs.Eval.{Ex, leaf, con, plus, minus, times, over, range, proves}
 use Rattle.root.specs.Root.{sqrtOf}
@@ -92,14 +92,14 @@ root3-is : sqrtOf k3 ≡ root3
 unfolding root3 sqrtOf ofBits toBits leadingZeros
 root3-is = refl
 
-root2a-is : sqrtOf (k2 ⊗ (k32 ⊘ k48000 ⊘ k0p5)) ≡ root2a
+root2a-is : sqrtOf (k2 ⊗ (k32 ⊘ FS ⊘ k0p5)) ≡ root2a
 unfolding root2a sqrtOf ofBits toBits mul div round leadingZeros
 root2a-is = refl
 
 -- the drift's step as an expression, for cents from a to b
 abbrev drift-ex : {a b c u d : Float} → In binary32 a b c → Both u → Unit d → Ex binary32
 drift-ex h k m =
-    let a = k32 ⊘ k48000 ⊘ k0p5 in
+    let a = k32 ⊘ FS ⊘ k0p5 in
     plus (leaf h) (plus (times (con (neg a)) (leaf h)) (times (times (times (times (leaf k) (con root3)) (con k1p5)) (con root2a)) (leaf m)))
 
 module _ (c u d : Float) (k : Both u) (m : Unit d) where

@@ -5,7 +5,7 @@ use lib.Bits.{bitXor}
 use lib.Dec.{ltb, eqb}
 use lib.IntN.{pos}
 use lib.Ieee.{Float, binary32, neg, lt, ofInt}
-use Rattle.float.specs.Consts.{k0, k1, k2, k3, k32, k1200, k48000, k0p5, k1p5, kUMax}
+use Rattle.float.specs.Consts.{k0, k1, k2, k3, k32, k1200, FS, k0p5, k1p5, kUMax}
 use Rattle.float.specs.Ops.{_⊕_, _⊖_, _⊗_, _⊘_}
 use Rattle.root.specs.Root.{sqrtOf}
 use Rattle.power.specs.Power.{exp2Of}
@@ -44,7 +44,7 @@ driftNew = record { cents = k0; ratio = k1; n = 0 }
 -- the drift's next cents: what was, pulled back by a part a of it, and the kick u
 unfoldable pub centsOf : Float → Float → Float → Float
 centsOf cents u depth =
-    let a = k32 ⊘ k48000 ⊘ k0p5 in
+    let a = k32 ⊘ FS ⊘ k0p5 in
     cents ⊕ (neg a ⊗ cents ⊕ u ⊗ sqrtOf k3 ⊗ k1p5 ⊗ sqrtOf (k2 ⊗ a) ⊗ depth)
 
 -- `Drift::tick`: a drift draws on every 32nd tick

@@ -225,8 +225,8 @@ impl Chain {
         let i = read(f, v);
         let rf = i.rf;
         let ra = i.ra;
-        let flt = self.flt.filter(rf);
-        let amp = self.amp.amp(ra);
+        let flt = self.flt.tick(rf, false);
+        let amp = self.amp.tick(ra, true);
         let fc = cutoff(i.frq, i.depth, flt.level);
         let s = run_filter(self, i, fc, overdrive(i.ovr, x));
         ChainOut {

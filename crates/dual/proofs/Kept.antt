@@ -55,7 +55,7 @@ record-bytes f h d k = bytes-in f h (dualSpec d .env + 8 * k)
 
 level-range : (x : Float) → Level x → In binary32 kM128 k127 x
 unfolding ofBits fits neg
-level-range x h = in-of binary32 kM128 k127 x tt (h .held) (h .low) (h .high)
+level-range x h = in-of binary32 kM128 k127 x tt (h .f32) (h .low) (h .high)
 
 word-range : (w : ℕ) → w ≤ 65535 → In binary32 k0 k65535 (ofInt binary32 (pos w))
 word-range w h = unfold ofBits ofInt round fits le lt eq in ofInt-in binary32 (pos 0) (pos 65535) k0 k65535 (pos w) (le→leb 0 w (omega arith)) (le→leb w 65535 h) tt

@@ -8,15 +8,16 @@ use native.Mathlib.Omega.{arith}
 use mathlib.Core.Bool.{Bool, true, false, not, true≢false, false≢true}
 use lib.IntN.{pos, negsuc}
 use lib.Dec.{T, leb, le→leb, leb→le, nleb→lt, lit≤, lit<}
-use lib.Ieee.{Float, nan, inf, fin, binary32, down, add, sub, mul, le, fits}
+use lib.Ieee.{Float, nan, inf, fin, binary32, down, ofBits, neg, add, sub, mul, le, fits}
 use lib.Ieee.Fits.{down-pos, cond-fits, add-fits}
+use Rattle.float.specs.Consts.{k127, kM128}
 use Rattle.float.specs.Floats.{absOf, signumOf}
 use Rattle.line.proofs.Units.{Is}
 use Rattle.line.proofs.Places.{Pos}
 use Rattle.line.proofs.Rounds.{Room}
 use Rattle.line.proofs.Line.{At, at-le, between}
 use Rattle.envelope.specs.Record.{tickLevel}
-use Rattle.envelope.specs.Levels.{Level, Step, Between, place, distance, ticks}
+use Rattle.envelope.specs.Levels.{Level, Step, Between, Equal, place, distance, ticks}
 use Rattle.envelope.proofs.Tick.{Up, Down, Moved, tick-moves}
 
 dist : ℕ → ℕ → ℕ
@@ -113,22 +114,18 @@ module _ (o j W H : ℕ) (R : Room binary32 j) (B : 2 * 2 ^ (24 + j) ≤ o) (Q4 
 abbrev pub O : ℕ
 O = 2 ^ 160
 
-abbrev bottom : Float
-bottom = fin true 1 (pos 7)
-
-abbrev ceiling : Float
-ceiling = fin false 127 (pos 0)
-
 abbrev slowest : Float
 slowest = fin false 1 (negsuc 8)
 
 abbrev fastest : Float
 fastest = fin false 1 (pos 7)
 
-bottom-at : At binary32 O bottom (2 ^ 160 - 2 ^ 156)
+bottom-at : At binary32 O kM128 (2 ^ 160 - 2 ^ 156)
+unfolding ofBits neg
 bottom-at = record { s = true; q = 2 ^ 156; is = (refl, refl); rep = record { q = 1; j = 156; few = lit< tt; is = refl; fine = lit< tt }; place = refl }
 
-ceiling-at : At binary32 O ceiling (2 ^ 160 + 127 * 2 ^ 149)
+ceiling-at : At binary32 O k127 (2 ^ 160 + 127 * 2 ^ 149)
+unfolding ofBits
 ceiling-at = record { s = false; q = 127 * 2 ^ 149; is = (refl, refl); rep = record { q = 127; j = 149; few = lit< tt; is = refl; fine = lit< tt }; place = refl }
 
 slowest-at : At binary32 O slowest (2 ^ 160 + 2 ^ 140)
@@ -157,8 +154,9 @@ pub record LevelAt (x : Float) : Type 0 where
   pub high' : at < O + 2 ^ 156
 
 pub level-at : (x : Float) → Level x → LevelAt x
+unfolding ofBits neg
 level-at x h =
-    let b = between binary32 O bottom x ceiling (2 ^ 160 - 2 ^ 156) (2 ^ 160 + 127 * 2 ^ 149) bottom-at ceiling-at (h .held) tt tt (h .low) (h .high) in
+    let b = between binary32 O kM128 x k127 (2 ^ 160 - 2 ^ 156) (2 ^ 160 + 127 * 2 ^ 149) bottom-at ceiling-at (h .f32) tt tt (h .low) (h .high) in
     let f = level-facts (2 ^ 132) (b .at) (lit< tt) (b .from) (b .upto) in
     record { at = b .at; is = b .is; low = b .from; high = b .upto; low' = f .0; high' = f .1 }
 
@@ -171,7 +169,7 @@ record StepAt (x : Float) : Type 0 where
 
 step-at : (x : Float) → Step x → StepAt x
 step-at x h =
-    let b = between binary32 O slowest x fastest (2 ^ 160 + 2 ^ 140) (2 ^ 160 + 2 ^ 156) slowest-at fastest-at (h .held) tt tt (h .low) (h .high) in
+    let b = between binary32 O slowest x fastest (2 ^ 160 + 2 ^ 140) (2 ^ 160 + 2 ^ 156) slowest-at fastest-at (h .f32) tt tt (h .low) (h .high) in
     let f = step-facts (2 ^ 132) (b .at) (lit< tt) (b .from) (b .upto) in
     record { size = b .at - O; is = subst (λ (p : ℕ). At binary32 O x p) (f .0) (b .is); low = f .1; high = f .2; some = f .3 }
 
@@ -232,7 +230,7 @@ module _ (target step : Float) (t : Level target) (s : Step step) where
   new-fits : (level : Float) → T (fits binary32 (tickLevel level target step))
   unfolding tickLevel
   new-fits level =
-      cond-fits binary32 (le (absOf (sub binary32 target level)) step) target (add binary32 level (mul binary32 step (signumOf (sub binary32 target level)))) (t .held)
+      cond-fits binary32 (le (absOf (sub binary32 target level)) step) target (add binary32 level (mul binary32 step (signumOf (sub binary32 target level)))) (t .f32)
       (add-fits binary32 level (mul binary32 step (signumOf (sub binary32 target level))))
 
   -- a tick does not pass the target, and so stays a level
@@ -244,11 +242,11 @@ module _ (target step : Float) (t : Level target) (s : Step step) where
         | inr m ↦ elim (m .way) [
           | inl u ↦ (
             inl (ordered (l .is) (m .at) (u .from), ordered (m .at) (tt' .is) (u .upto)),
-            record { held = new-fits level; low = ordered bottom-at (m .at) (le-trans (l .low) (u .from)); high = ordered (m .at) ceiling-at (le-trans (u .upto) (tt' .high)) },
+            record { f32 = new-fits level; low = ordered bottom-at (m .at) (le-trans (l .low) (u .from)); high = ordered (m .at) ceiling-at (le-trans (u .upto) (tt' .high)) },
           )
           | inr u ↦ (
             inr (ordered (tt' .is) (m .at) (u .upto), ordered (m .at) (l .is) (u .from)),
-            record { held = new-fits level; low = ordered bottom-at (m .at) (le-trans (tt' .low) (u .upto)); high = ordered (m .at) ceiling-at (le-trans (u .from) (l .high)) },
+            record { f32 = new-fits level; low = ordered bottom-at (m .at) (le-trans (tt' .low) (u .upto)); high = ordered (m .at) ceiling-at (le-trans (u .from) (l .high)) },
           )
         ]
       ]
@@ -257,6 +255,18 @@ module _ (target step : Float) (t : Level target) (s : Step step) where
       here l = elim (either (l .at) (tt' .at)) [
         | inl a ↦ inl (ordered (l .is) (tt' .is) a, ordered (tt' .is) (tt' .is) (le-refl (tt' .at)))
         | inr a ↦ inr (ordered (tt' .is) (tt' .is) (le-refl (tt' .at)), ordered (tt' .is) (l .is) a)
+      ]
+
+  -- a level that equals the target as a number is ticked to one that does
+  pub tick-equal : (level : Float) → Level level → Equal level target → Equal (tickLevel level target step) target
+  tick-equal level h e =
+      let l = level-at level h in
+      elim (moves level l) [
+        | inl a ↦ subst (λ (x : Float). Equal x target) (sym a) (ordered (tt' .is) (tt' .is) (le-refl (tt' .at)), ordered (tt' .is) (tt' .is) (le-refl (tt' .at)))
+        | inr m ↦ elim (m .way) [
+          | inl u ↦ (ordered (m .at) (tt' .is) (u .upto), ordered (tt' .is) (m .at) (le-trans (in-order (tt' .is) (l .is) (e .1)) (u .from)))
+          | inr u ↦ (ordered (m .at) (tt' .is) (le-trans (u .from) (in-order (l .is) (tt' .is) (e .0))), ordered (tt' .is) (m .at) (u .upto))
+        ]
       ]
 
   -- a tick that does not arrive comes nearer by 511 / 2 ^ 18 at least

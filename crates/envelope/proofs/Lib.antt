@@ -5,3 +5,4 @@ pub mod Tick
 pub mod Arrive
 pub mod Run
 pub mod Settle
+pub mod States

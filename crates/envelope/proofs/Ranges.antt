@@ -9,7 +9,7 @@ use lib.IntN.{ℤ, pos, negsuc}
 use lib.Dec.{T, ltb, le→leb, lt→ltb, ltb→lt, nltb→le}
 use lib.Signed.{leZ}
 use lib.Pow.{pow-pos, pow-mono}
-use lib.Ieee.{fin, binary32, round, ofInt, ofBits, le, lt, eq, fits, inSigned, inFloat}
+use lib.Ieee.{fin, binary32, round, ofInt, ofBits, neg, le, lt, eq, fits, inSigned, inFloat}
 use lib.Ieee.Back.{positive-back, negative-back}
 use Rattle.line.proofs.Whole.{ofInt-in}
 use Rattle.float.specs.Consts.{k2, k8388608}
@@ -23,9 +23,9 @@ unfolding levelOf
 level-in b h = go (ltb b 128) (ltb→lt b 128) (nltb→le b 128)
   where
     level : (z : ℤ) → T (leZ (negsuc 127) z) → T (leZ z (pos 127)) → Level (ofInt binary32 z)
-    level z l u = unfold ofInt round fits le lt eq in
+    level z l u = unfold ofBits neg ofInt round fits le lt eq in
         let k = ofInt-in binary32 (negsuc 127) (pos 127) (fin true 1 (pos 7)) (fin false 127 (pos 0)) z l u tt in
-        record { held = k .ok .0; low = k .from; high = k .upto }
+        record { f32 = k .ok .0; low = k .from; high = k .upto }
 
     go : (t : Bool) → (T t → b < 128) → (T (not t) → 128 ≤ b) → Level (cond t (ofInt binary32 (pos b)) (ofInt binary32 (negsuc (255 - b))))
     go true l g = let k = l tt in level (pos b) tt (le→leb b 127 (omega arith))
@@ -52,7 +52,7 @@ step-in e m h k =
     let n = (2147483647 - m * 16384) / 2 ^ e in
     let c = ofInt-in binary32 (pos 32768) (pos 2147483647) (fin false 1 (pos 15)) (fin false 1 (pos 31)) (pos n) (le→leb 32768 n (count-low e m h k)) (le→leb n 2147483647 (count-high e m)) tt in
     let r = range (fin false 1 (negsuc 8)) (fin false 1 (pos 7)) (over (over (leaf c) k8388608) k2) tt in
-    record { held = r .ok .0; low = r .from; high = r .upto }
+    record { f32 = r .ok .0; low = r .from; high = r .upto }
 
 -- ---- a record of eight bytes
 pub record-in : (r : List ℕ) → ((i : ℕ) → getD r i 0 < 256) → Ranges (recordOf r)

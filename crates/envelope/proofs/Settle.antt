@@ -30,7 +30,7 @@ module _ (m : Move) (x : Float) (h : Bytes (m .bytes)) (l : Level x) where
     where
       by : (t p : Bool) → Level (cond t (tickLevel (stood m x) (given m .target) (given m .step)) (cond p Rattle.float.specs.Consts.kM128 (stood m x)))
       by true p = ticks-to .1
-      by false true = unfold ofBits neg fits le lt eq in record { held = tt; low = tt; high = tt }
+      by false true = unfold ofBits neg fits le lt eq in record { f32 = tt; low = tt; high = tt }
       by false false = stood-in m x h l
 
   pub settle-between : ticked m ≡ true → Between (stood m x) (settle m x) (given m .target)

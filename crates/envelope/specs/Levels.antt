@@ -5,14 +5,15 @@ use mathlib.Core.Logic.{_⊎_}
 use lib.IntN.{pos, negsuc}
 use lib.Dec.{T}
 use lib.Ieee.{Float, nan, inf, fin, binary32, up, down, le, fits, inSigned}
+use Rattle.float.specs.Consts.{k127, kM128}
 use Rattle.envelope.specs.declared.Record.{Record}
 use Rattle.envelope.specs.Record.{tickLevel}
 
 -- an f32 from -128 to 127
 pub record Level (x : Float) : Type 0 where
-  pub held : T (fits binary32 x)
-  pub low : T (le (fin true 1 (pos 7)) x)
-  pub high : T (le x (fin false 127 (pos 0)))
+  pub f32 : T (fits binary32 x)
+  pub low : T (le kM128 x)
+  pub high : T (le x k127)
 
 -- a whole number that an i8 holds
 abbrev pub Whole : Float → Type 0
@@ -20,13 +21,17 @@ Whole x = T (inSigned binary32 7 x)
 
 -- an f32 from 2 ^ -9 to 128
 pub record Step (x : Float) : Type 0 where
-  pub held : T (fits binary32 x)
+  pub f32 : T (fits binary32 x)
   pub low : T (le (fin false 1 (negsuc 8)) x)
   pub high : T (le x (fin false 1 (pos 7)))
 
 -- y lies between x and z, or is one of them
 abbrev pub Between : Float → Float → Float → Type 0
 Between x y z = (T (le x y) × T (le y z)) ⊎ (T (le z y) × T (le y x))
+
+-- equal as numbers, as -0 and 0 are
+abbrev pub Equal : Float → Float → Type 0
+Equal x y = T (le x y) × T (le y x)
 
 -- a finite value's exact place on a line that counts in 2 ^ -149, with zero at 2 ^ 160
 unfoldable pub place : Float → ℕ

@@ -36,9 +36,14 @@ stood m x = cond (m .restarted) (given m .start) x
 abbrev pub ticked : Move → Bool
 ticked m = not (m .parked) && not (m .held)
 
--- the level after the move: ticked once from where it stood, or -128 where it is parked, or where it stood
+-- the level after it, by the record and what befalls the level: ticked once from where it stood, or -128 where it is parked, or where it stood
+abbrev pub settledBy : Record → Bool → Bool → Bool → Float → Float
+settledBy r restarted held parked x =
+    let y = cond restarted (r .start) x in
+    cond (not parked && not held) (tickLevel y (r .target) (r .step)) (cond parked kM128 y)
+
 unfoldable pub settle : Move → Float → Float
-settle m x = cond (ticked m) (tickLevel (stood m x) (given m .target) (given m .step)) (cond (m .parked) kM128 (stood m x))
+settle m x = settledBy (given m) (m .restarted) (m .held) (m .parked) x
 
 -- whether the first n bytes of two records are the same
 unfoldable pub alike : ℕ → List ℕ → List ℕ → Bool
@@ -72,8 +77,9 @@ sameKey a b = eqb (a .start) (b .start) && eqb (a .target) (b .target) && eqb (a
 
 -- amp: the command after a step without it; filter: a change of bytes 2, 3 or of the 20 bits, with mode 9 or F
 unfoldable pub segStarts : Bool → List ℕ → SegEnv → Bool
-segStarts true r e = recordOf r .«start_cmd» && not (e .cmd)
-segStarts false r e = not (sameKey (keyOf r) (e .key)) && (eqb (modeOf r) 9 || eqb (modeOf r) 15)
+segStarts amp r e =
+    cond amp (recordOf r .«start_cmd» && not (e .cmd))
+    (not (sameKey (keyOf r) (e .key)) && (eqb (modeOf r) 9 || eqb (modeOf r) 15))
 
 -- the modes that release
 abbrev pub ramps : ℕ → Bool

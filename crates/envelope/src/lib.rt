@@ -3,7 +3,7 @@ ghost use mathlib.Core.Path.{_≡_};
 ghost use mathlib.Core.Bool.{Bool, true, false, cond, not, _&&_, _||_};
 ghost use Prim.Native.Nat.{_+_, _*_, _/_, _≤_, _<_};
 ghost use Rattle.envelope.specs.Record.{levelOf, expOf, mantOf, modeOf, rateOf, stepOf, recordOf, tickOf};
-ghost use Rattle.envelope.specs.Moves.{moveBy, settle, alike, dualOf, hitOf, keyOf, sameKey, holdOf, segOf};
+ghost use Rattle.envelope.specs.Moves.{settledBy, alike, dualOf, hitOf, keyOf, sameKey, holdOf, segOf};
 
 // One 8-byte record. Its first word is a command: not zero starts the segment.
 #[repr(C)]
@@ -91,7 +91,7 @@ impl Env {
         let rec = Record::parse(r);
         let restarted = !same(r, last) & rec.start_cmd;
         Env {
-            level: settled(r, restarted, false, false, self.level),
+            level: settled(rec, restarted, false, false, self.level),
         }
     }
 
@@ -102,19 +102,18 @@ impl Env {
         let rec = Record::parse(r);
         let restarted = (mode_of(r) == 15) & !(mode == 15);
         Env {
-            level: settled(r, restarted, false, !rec.start_cmd, self.level),
+            level: settled(rec, restarted, false, !rec.start_cmd, self.level),
         }
     }
 }
 
 // The level after a move.
-fn settled(r: [u8; 8], restarted: bool, held: bool, parked: bool, level: f32) -> f32
-    ensures { λ x. ⌜ x ≡ settle (moveBy r restarted held parked) level ⌝ }
+fn settled(rec: Record, restarted: bool, held: bool, parked: bool, level: f32) -> f32
+    ensures { λ x. ⌜ x ≡ settledBy rec restarted held parked level ⌝ }
 {
     if parked {
         return -128.0;
     }
-    let rec = Record::parse(r);
     let x = float::choose(restarted, rec.start, level);
     if held {
         return x;
@@ -198,42 +197,37 @@ pub struct SegEnv {
     pub cmd: bool,
 }
 
-impl SegEnv {
-    // An amp's: the command in the record's first word starts the segment.
-    pub fn amp(self, r: [u8; 8]) -> SegEnv
-        ensures { λ x. ⌜ x ≡ segOf true r self ⌝ }
-    {
-        let rec = Record::parse(r);
-        let key = Key::of(r);
-        let restarted = rec.start_cmd & !self.cmd;
-        let stood = float::choose(restarted, rec.start, self.level);
-        let hold = hold_of(mode_of(r), key.rate, rec.target - stood, self.hold);
-        let level = settled(r, restarted, hold, false, self.level);
-        SegEnv {
-            key,
-            level,
-            hold,
-            cmd: rec.start_cmd,
-        }
-    }
+// One of two marks, without a branch in the caller.
+fn choose(c: bool, a: bool, b: bool) -> bool
+    ensures { λ r. ⌜ r ≡ cond c a b ⌝ }
+{
+    if c { a } else { b }
+}
 
-    // A filter's, whose first word is a depth: a changed key with mode 9 or F starts it.
-    pub fn filter(self, r: [u8; 8]) -> SegEnv
-        ensures { λ x. ⌜ x ≡ segOf false r self ⌝ }
+impl SegEnv {
+    // `cmd_word`: the record's first word is a start command (the amp's), not a depth (the filter's). The amp starts on the command after a record
+    // without it, the filter on a changed key with mode 9 or F.
+    pub fn tick(self, r: [u8; 8], cmd_word: bool) -> SegEnv
+        ensures { λ x. ⌜ x ≡ segOf «cmd_word» r self ⌝ }
     {
         let rec = Record::parse(r);
         let key = Key::of(r);
         let mode = mode_of(r);
         let was = self.key;
-        let restarted = !key.same(was) & ((mode == 9) | (mode == 15));
+        let restarted = choose(
+            cmd_word,
+            rec.start_cmd & !self.cmd,
+            !key.same(was) & ((mode == 9) | (mode == 15)),
+        );
         let stood = float::choose(restarted, rec.start, self.level);
         let hold = hold_of(mode, key.rate, rec.target - stood, self.hold);
-        let level = settled(r, restarted, hold, false, self.level);
+        let level = settled(rec, restarted, hold, false, self.level);
+        let cmd = choose(cmd_word, rec.start_cmd, self.cmd);
         SegEnv {
             key,
             level,
             hold,
-            cmd: self.cmd,
+            cmd,
         }
     }
 }

@@ -1,5 +1,5 @@
 -- The control frame's fields, as lists of bytes give them. Definitions only.
-use Prim.Native.Nat.{ℕ, _+_, _-_, _*_, _/_, _%_, _^_}
+use Prim.Native.Nat.{ℕ, _+_, _-_, _*_, _/_, _%_, _^_, _<_}
 use mathlib.Core.Bool.{Bool, not, cond}
 use mathlib.Core.List.{List, [], _∷_}
 use lib.ListN.{getD}
@@ -9,6 +9,10 @@ use lib.Ieee.{Float, binary32, ofInt}
 use Rattle.frame.specs.Offsets.{fltAt, routeBit}
 use Rattle.frame.specs.declared.FltType.{FltType}
 use Rattle.frame.specs.declared.FltType.the-variants.{Lp2, Lp1, Bp, Hp1, Hp2, Bs, Pk}
+
+-- a list of bytes
+abbrev pub Bytes : List ℕ → Type 0
+Bytes f = (i : ℕ) → getD f i 0 < 256
 
 -- a word: big-endian, 16 bits, unsigned
 abbrev pub wordAt : List ℕ → ℕ → ℕ

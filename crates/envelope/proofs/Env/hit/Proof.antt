@@ -1,5 +1,5 @@
 -- `envelope::Env::hit` meets its contract: its move, settled. Assumes nothing.
-use Rattle.envelope.specs.Moves.{hitOf, hitMove}
+use Rattle.envelope.specs.Moves.{settle, hitOf, hitMove}
 use borrow.Author.Needs.{needs}
 use Rattle.envelope.proofs.Env.hit.Statement.{statement}
 use Rattle.envelope.proofs.Env.hit.Tie as tie
@@ -14,7 +14,7 @@ settled-requires : tie.Need-settled-requires
 settled-requires c κs = search needs
 
 returns : tie.Need-returns
-unfolding hitOf hitMove
+unfolding hitOf hitMove settle
 returns c = rw (← c .before .before .before .parse .ensures, ← c .before .before .mode-of .ensures, ← c .settled .ensures)
 
 pub hit-spec : {M : Type 1} → statement M

@@ -1,6 +1,6 @@
 -- The voice board: a fresh one, the refusals, a step. From `Analog::frame`. Definitions only.
-use Prim.Native.Nat.{ℕ}
-use mathlib.Core.Bool.{Bool, true, cond, _&&_}
+use Prim.Native.Nat.{ℕ, _+_}
+use mathlib.Core.Bool.{Bool, true, false, cond, _&&_}
 use mathlib.Core.List.{List, [], _∷_}
 use lib.ListN.{set, length, replicate}
 use lib.Dec.{ltb, eqb}
@@ -80,10 +80,18 @@ unfoldable pub refusedOf : Analog → Outcome → Answer
 refusedOf b o = record { outcome = o; rx = replicate 12 (pos 0); mix = record { l = k0; r = k0 }; board = b }
 
 -- "Receive words 8, 9 are the audio inputs halved, 10, 11 the mix halved"
+abbrev pub RX_AUDIO_IN : ℕ
+RX_AUDIO_IN = 8
+
+abbrev pub RX_MAIN : ℕ
+RX_MAIN = 10
+
 unfoldable pub wordsOf : List ℤ → Mix → Mix → List ℤ
 wordsOf rx audio mix =
-    set (set (set (set rx 8 (to24Of (audio .l ⊗ k0p5))) 9 (to24Of (audio .r ⊗ k0p5))) 10 (to24Of (mix .l ⊗ k0p5))) 11
-    (to24Of (mix .r ⊗ k0p5))
+    let a = set rx RX_AUDIO_IN (to24Of (audio .l ⊗ k0p5)) in
+    let b = set a (RX_AUDIO_IN + 1) (to24Of (audio .r ⊗ k0p5)) in
+    let c = set b RX_MAIN (to24Of (mix .l ⊗ k0p5)) in
+    set c (RX_MAIN + 1) (to24Of (mix .r ⊗ k0p5))
 
 -- the board's sources before any has sounded
 unfoldable pub takenOf : Analog → Sources
@@ -103,18 +111,15 @@ steppedOf b f dac fx x =
       board = record { duals = s .duals; hat = s .hat; toms = s .toms; cym = s .cym; chains = v .chains; comp = o .comp; wobble = s .w };
     }
 
--- a step where nothing is refused, and else the refusal
-unfoldable pub answeredOf : Outcome → Analog → List ℕ → List ℤ → List ℕ → Inputs → Answer
-answeredOf Done b f dac fx x = steppedOf b f dac fx x
-answeredOf ShortFrame b f dac fx x = refusedOf b ShortFrame
-answeredOf ShortParameters b f dac fx x = refusedOf b ShortParameters
-answeredOf DacCount b f dac fx x = refusedOf b DacCount
-answeredOf DacRange b f dac fx x = refusedOf b DacRange
-answeredOf InputRange b f dac fx x = refusedOf b InputRange
-answeredOf BadOpening b f dac fx x = refusedOf b BadOpening
-answeredOf WrongLength b f dac fx x = refusedOf b WrongLength
-answeredOf NoBody b f dac fx x = refusedOf b NoBody
+-- a call is accepted where its number is 0
+abbrev pub accepted : Outcome → Bool
+accepted o = eqb (numberOf o) 0
+
+-- the step where it is accepted, and else the refusal
+unfoldable pub answeredIf : Bool → Outcome → Analog → List ℕ → List ℤ → List ℕ → Inputs → Answer
+answeredIf true o b f dac fx x = steppedOf b f dac fx x
+answeredIf false o b f dac fx x = refusedOf b o
 
 -- a step: what it answers to any arguments
 unfoldable pub answerOf : Analog → List ℕ → List ℤ → List ℕ → Inputs → Answer
-answerOf b f dac fx x = answeredOf (refusalOf f dac fx x) b f dac fx x
+answerOf b f dac fx x = let o = refusalOf f dac fx x in answeredIf (accepted o) o b f dac fx x

@@ -1,17 +1,17 @@
 // The voice board, and one step with its refusals.
 use chain::Chain;
 use comp::Comp;
-use stereo::Mix;
 use cym::Cym;
 use dual::DualOsc;
 use hat::Hat;
+use stereo::Mix;
 use tom::Tom;
 use wobble::Wobble;
 ghost use mathlib.Core.Path.{_≡_};
 ghost use mathlib.Core.Bool.{Bool};
 ghost use Prim.Native.Nat.{_≤_, _<_};
 ghost use lib.ListN.{length};
-ghost use Rattle.board.specs.Board.{numberOf, inRange, allInRange, inputOk, inputsOk, wordsOf, refusedOf, answerOf};
+ghost use Rattle.board.specs.Board.{freshOf, numberOf, inRange, allInRange, inputOk, inputsOk, refusalOf, refusedOf, wordsOf, steppedOf, answerOf};
 
 #[repr(C)]
 pub struct Analog {
@@ -28,6 +28,28 @@ pub struct Analog {
 pub struct Inputs {
     pub audio: Mix,
     pub ext: Mix,
+}
+
+// A fresh board.
+pub fn fresh(seed: u32, ideal: bool) -> Analog
+    ensures { λ r. ⌜ r ≡ freshOf seed ideal ⌝ }
+{
+    let d = DualOsc::new();
+    let hat = Hat::new();
+    let t = Tom::new();
+    let cym = Cym::new();
+    let c = Chain::new();
+    let comp = Comp::new();
+    let wobble = Wobble::new(seed, ideal);
+    Analog {
+        duals: [d; 3],
+        hat,
+        toms: [t; 3],
+        cym,
+        chains: [c; 8],
+        comp,
+        wobble,
+    }
 }
 
 // How a call ends. The last three are of a recording alone; a step never answers them.
@@ -99,6 +121,28 @@ fn inputs_ok(x: Inputs) -> bool
     input_ok(x.audio.l) & input_ok(x.audio.r) & input_ok(x.ext.l) & input_ok(x.ext.r)
 }
 
+// The lowest that applies.
+pub fn refusal(f: &[u8], dac: &[i32], fx: &[u8], x: Inputs) -> Outcome
+    ensures { λ r. ⌜ r ≡ refusalOf (now (f .entry)) (now (dac .entry)) (now (fx .entry)) x ⌝ }
+{
+    if f.len() < 664 {
+        return Outcome::ShortFrame;
+    }
+    if fx.len() < 24 {
+        return Outcome::ShortParameters;
+    }
+    if dac.len() != 16 {
+        return Outcome::DacCount;
+    }
+    if all_in_range(dac) {
+        if inputs_ok(x) {
+            return Outcome::Done;
+        }
+        return Outcome::InputRange;
+    }
+    Outcome::DacRange
+}
+
 fn refused(board: Analog, outcome: Outcome) -> Answer
     ensures { λ r. ⌜ r ≡ refusedOf board outcome ⌝ }
 {
@@ -112,6 +156,11 @@ fn refused(board: Analog, outcome: Outcome) -> Answer
 
 // ---- a step
 
+// Where the receive words have the audio inputs and the mix.
+const RX_AUDIO_IN: usize = 8;
+
+const RX_MAIN: usize = 10;
+
 // The receive words: of the voices, then the audio inputs and the mix, halved.
 fn words(rx: [i32; 12], audio: Mix, mix: Mix) -> [i32; 12]
     ensures { λ r. ⌜ r ≡ wordsOf rx audio mix ⌝ }
@@ -121,70 +170,67 @@ fn words(rx: [i32; 12], audio: Mix, mix: Mix) -> [i32; 12]
     let b = float::to24(audio.r * 0.5);
     let c = float::to24(mix.l * 0.5);
     let d = float::to24(mix.r * 0.5);
-    next[8] = a;
-    next[9] = b;
-    next[10] = c;
-    next[11] = d;
+    next[RX_AUDIO_IN] = a;
+    next[RX_AUDIO_IN + 1] = b;
+    next[RX_MAIN] = c;
+    next[RX_MAIN + 1] = d;
     next
+}
+
+// One sample.
+fn stepped(board: Analog, f: &[u8], dac: &[i32], fx: &[u8], x: Inputs) -> Answer
+    requires { ⌜ (664 ≤ length (now f)) × (16 ≤ length (now dac)) × (24 ≤ length (now fx)) ⌝ }
+    ensures { λ r. ⌜ r ≡ steppedOf board (now (f .entry)) (now (dac .entry)) (now (fx .entry)) x ⌝ }
+{
+    let duals = board.duals;
+    let hat = board.hat;
+    let toms = board.toms;
+    let cym = board.cym;
+    let w = board.wobble;
+    let s = sources::sound(duals, hat, toms, cym, w, f, dac);
+    let src = s.src;
+    let c = board.chains;
+    let b = bus::voices(c, f, dac, src);
+    let was = b.mix;
+    let ext = x.ext;
+    let m = bus::master(f, dac, was, ext);
+    let k = board.comp;
+    let o = k.process(fx, m.l, m.r);
+    let mix = o.mix;
+    let voices = b.rx;
+    let audio = x.audio;
+    let rx = words(voices, audio, mix);
+    let duals = s.duals;
+    let hat = s.hat;
+    let toms = s.toms;
+    let cym = s.cym;
+    let chains = b.chains;
+    let comp = o.comp;
+    let wobble = s.w;
+    let outcome = Outcome::Done;
+    Answer {
+        outcome,
+        rx,
+        mix,
+        board: Analog {
+            duals,
+            hat,
+            toms,
+            cym,
+            chains,
+            comp,
+            wobble,
+        },
+    }
 }
 
 // One sample, or the lowest refusal that applies.
 pub fn step(board: Analog, f: &[u8], dac: &[i32], fx: &[u8], x: Inputs) -> Answer
     ensures { λ r. ⌜ r ≡ answerOf board (now (f .entry)) (now (dac .entry)) (now (fx .entry)) x ⌝ }
 {
-    if f.len() < 664 {
-        return refused(board, Outcome::ShortFrame);
+    let outcome = refusal(f, dac, fx, x);
+    if number(outcome) == 0 {
+        return stepped(board, f, dac, fx, x);
     }
-    if fx.len() < 24 {
-        return refused(board, Outcome::ShortParameters);
-    }
-    if dac.len() != 16 {
-        return refused(board, Outcome::DacCount);
-    }
-    if all_in_range(dac) {
-        if inputs_ok(x) {
-            let duals = board.duals;
-            let hat = board.hat;
-            let toms = board.toms;
-            let cym = board.cym;
-            let w = board.wobble;
-            let s = sources::sound(duals, hat, toms, cym, w, f, dac);
-            let src = s.src;
-            let c = board.chains;
-            let b = bus::voices(c, f, dac, src);
-            let was = b.mix;
-            let ext = x.ext;
-            let m = bus::master(f, dac, was, ext);
-            let k = board.comp;
-            let o = k.process(fx, m.l, m.r);
-            let mix = o.mix;
-            let voices = b.rx;
-            let audio = x.audio;
-            let rx = words(voices, audio, mix);
-            let duals = s.duals;
-            let hat = s.hat;
-            let toms = s.toms;
-            let cym = s.cym;
-            let chains = b.chains;
-            let comp = o.comp;
-            let wobble = s.w;
-            let outcome = Outcome::Done;
-            return Answer {
-                outcome,
-                rx,
-                mix,
-                board: Analog {
-                    duals,
-                    hat,
-                    toms,
-                    cym,
-                    chains,
-                    comp,
-                    wobble,
-                },
-            };
-        }
-        return refused(board, Outcome::InputRange);
-    }
-    refused(board, Outcome::DacRange)
+    refused(board, outcome)
 }

@@ -21,11 +21,23 @@ to24-requires-4 c κs = search needs
 array-set-from-next : tie.Need-array-set-from-next
 array-set-from-next c = search needs
 
+add-next : tie.Need-add-next
+add-next c = search needs
+
+mul-next : tie.Need-mul-next
+mul-next c = search needs
+
 array-set-from-next-2 : tie.Need-array-set-from-next-2
 array-set-from-next-2 c = search needs
 
 array-set-from-next-3 : tie.Need-array-set-from-next-3
 array-set-from-next-3 c = search needs
+
+add-next-2 : tie.Need-add-next-2
+add-next-2 c = search needs
+
+mul-next-2 : tie.Need-mul-next-2
+mul-next-2 c = search needs
 
 array-set-from-next-4 : tie.Need-array-set-from-next-4
 array-set-from-next-4 c = search needs
@@ -43,7 +55,11 @@ words-spec =
     to24-requires-3
     to24-requires-4
     array-set-from-next
+    add-next
+    mul-next
     array-set-from-next-2
     array-set-from-next-3
+    add-next-2
+    mul-next-2
     array-set-from-next-4
     returns)

@@ -1,0 +1,2 @@
+-- Laws of `board`.
+pub mod Accepts

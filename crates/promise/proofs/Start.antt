@@ -26,16 +26,16 @@ use Rattle.chain.specs.declared.Chain.{Chain}
 use Rattle.chain.specs.Chain.{noChain, chainNew}
 use Rattle.chain.proofs.Kept.{ChainIn}
 use Rattle.board.specs.Board.{freshOf, takenOf}
-use Rattle.promise.proofs.Step.{Good}
+use Rattle.promise.proofs.Kept.{Good}
 
 -- ---- the numbers of a fresh board
 level-0 : Level k0
-unfolding ofBits fits le lt eq
-level-0 = record { held = tt; low = tt; high = tt }
+unfolding ofBits fits neg le lt eq
+level-0 = record { f32 = tt; low = tt; high = tt }
 
 level-128 : Level kM128
 unfolding ofBits fits neg le lt eq
-level-128 = record { held = tt; low = tt; high = tt }
+level-128 = record { f32 = tt; low = tt; high = tt }
 
 unit-0 : Unit k0
 unfolding ofBits fits le lt eq

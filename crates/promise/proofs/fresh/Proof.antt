@@ -1,46 +1,19 @@
--- `fresh` meets its contract: each part is fresh, and so the promise holds of it. Assumes nothing.
-use Rattle.board.specs.Board.{freshOf}
-use Rattle.promise.proofs.Whole.{promised}
+-- `promise::fresh` meets its contract: its board is the fresh one, of which the promise is proved. Assumes nothing.
+use mathlib.Core.Path.{sym, subst}
+use Rattle.board.specs.declared.Analog.{Analog}
+use Rattle.promise.specs.Promise.{Promised}
+use Rattle.promise.proofs.Whole.{fresh-promised}
 use borrow.Author.Needs.{needs}
 use Rattle.promise.proofs.fresh.Statement.{statement}
 use Rattle.promise.proofs.fresh.Tie as tie
 
-new-requires : tie.Need-new-requires
-new-requires c κs = search needs
-
-new-requires-2 : tie.Need-new-requires-2
-new-requires-2 c κs = search needs
-
-new-requires-3 : tie.Need-new-requires-3
-new-requires-3 c κs = search needs
-
-new-requires-4 : tie.Need-new-requires-4
-new-requires-4 c κs = search needs
-
-new-requires-5 : tie.Need-new-requires-5
-new-requires-5 c κs = search needs
-
-new-requires-6 : tie.Need-new-requires-6
-new-requires-6 c κs = search needs
-
-new-requires-7 : tie.Need-new-requires-7
-new-requires-7 c κs = search needs
+fresh-requires : tie.Need-fresh-requires
+fresh-requires c κs = search needs
 
 returns : tie.Need-returns
-unfolding freshOf
 returns c =
-    let s = c .before .before .before .before .before .before .before in
-    promised _ (s .args .seed) (s .args .ideal) (s .fits .seed .fits) (rw (← c .before .before .before .before .before .before .new .ensures, ← c .before .before .before .before .before .new2 .ensures, ← c .before .before .before .before .new3 .ensures, ← c .before .before .before .new4 .ensures, ← c .before .before .new5 .ensures, ← c .before .new6 .ensures, ← c .new7 .ensures))
+    let a = c .before in
+    (c .fresh .ensures, subst (λ (x : Analog). Promised x) (sym (c .fresh .ensures)) (fresh-promised (a .args .seed) (a .args .ideal) (a .fits .seed .fits)))
 
 pub fresh-spec : {M : Type 1} → statement M
-fresh-spec =
-    tie.close
-    (tie.spec
-    new-requires
-    new-requires-2
-    new-requires-3
-    new-requires-4
-    new-requires-5
-    new-requires-6
-    new-requires-7
-    returns)
+fresh-spec = tie.close (tie.spec fresh-requires returns)

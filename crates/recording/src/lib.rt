@@ -6,11 +6,13 @@ use board::Outcome;
 use stereo::Mix;
 ghost use mathlib.Core.Path.{_≡_};
 ghost use mathlib.Core.Bool.{Bool};
-ghost use Prim.Native.Nat.{_+_, _*_, _≤_, _<_};
+ghost use Prim.Native.Nat.{ℕ, _+_, _*_, _≤_, _<_};
 ghost use lib.ListN.{length};
 ghost use lib.Ieee.{binary32, ofBits};
-ghost use Rattle.recording.specs.Format.{numberAt, wordOf, inBounds, lettersOk, openingOk, extentOf, namedTo, dacAt, inputsAt};
+ghost use Rattle.board.specs.declared.Outcome.the-variants.{Done};
+ghost use Rattle.recording.specs.Format.{stepsOf, numberAt, wordOf, inBounds, lettersOk, openingOk, extentOf, namedTo, dacAt, inputsAt};
 ghost use Rattle.recording.specs.Play.{readyOf, closedOf, openOf, bodyOf, passedOf, unplayedOf, nextOf};
+ghost use Rattle.recording.specs.Replay.{Replays, OneCall};
 
 // A recording that is being played: its board, its counts and the number of its next step.
 pub struct Playing {
@@ -181,7 +183,7 @@ fn closed(outcome: Outcome) -> Opened
 
 // Opens a recording, or answers the lowest refusal that applies.
 pub fn open(rec: &[u8]) -> Opened
-    ensures { λ r. ⌜ r ≡ openOf (now (rec .entry)) ⌝ }
+    ensures { λ r. ⌜ (r ≡ openOf (now (rec .entry))) × ((n : ℕ) → r .outcome ≡ Done → n ≤ stepsOf (now (rec .entry)) → Replays (now (rec .entry)) n) ⌝ }
 {
     if opening_ok(rec) {
         let steps = number(rec, 12);
@@ -249,7 +251,7 @@ fn unplayed(p: Playing, outcome: Outcome) -> Played
 
 // The next step. Past the last step, or with a slice that is not the one opened, it tests again what it needs.
 pub fn next(p: Playing, rec: &[u8]) -> Played
-    ensures { λ r. ⌜ r ≡ nextOf p (now (rec .entry)) ⌝ }
+    ensures { λ r. ⌜ (r ≡ nextOf p (now (rec .entry))) × OneCall p r ⌝ }
 {
     let steps = p.steps;
     let bodies = p.bodies;

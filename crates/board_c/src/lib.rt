@@ -3,13 +3,9 @@ use board::Analog;
 use board::Inputs;
 use stereo::Mix;
 ghost use mathlib.Core.Path.{_≡_};
-ghost use mathlib.Core.List.{List};
-ghost use Prim.Native.Nat.{ℕ};
-ghost use Rattle.board.specs.Board.{freshOf, answerOf};
-ghost use Rattle.promise.specs.Calls.{Call};
-ghost use Rattle.promise.specs.Levels.{Which};
-ghost use Rattle.promise.specs.Promise.{Promise, Stretched};
-ghost use Rattle.board_c.specs.Calls.{inputsOf, numbered};
+ghost use Rattle.board.specs.Board.{freshOf};
+ghost use Rattle.promise.specs.Promise.{Promised};
+ghost use Rattle.board_c.specs.Calls.{inputsOf, Step};
 
 // A step's answer, with the number of its refusal, 0 for none.
 #[repr(C)]
@@ -22,7 +18,7 @@ pub struct Answer {
 
 #[no_mangle]
 pub extern "C" fn rytm_fresh(seed: u32, ideal: bool) -> Analog
-    ensures { λ r. ⌜ (r ≡ freshOf seed ideal) × ((calls : List Call) → Promise r calls) × ((w : Which) (n : ℕ) → Stretched r w n) ⌝ }
+    ensures { λ r. ⌜ (r ≡ freshOf seed ideal) × Promised r ⌝ }
 {
     promise::fresh(seed, ideal)
 }
@@ -38,7 +34,7 @@ pub extern "C" fn rytm_step(
     ext_l: f32,
     ext_r: f32,
 ) -> Answer
-    ensures { λ r. ⌜ r ≡ numbered (answerOf board (now (frame .entry)) (now (dac .entry)) (now (fx .entry)) (inputsOf «audio_l» «audio_r» «ext_l» «ext_r»)) ⌝ }
+    ensures { λ r. ⌜ Step board (now (frame .entry)) (now (dac .entry)) (now (fx .entry)) (inputsOf «audio_l» «audio_r» «ext_l» «ext_r») r ⌝ }
 {
     let x = Inputs {
         audio: Mix {
@@ -47,7 +43,7 @@ pub extern "C" fn rytm_step(
         },
         ext: Mix { l: ext_l, r: ext_r },
     };
-    let a = board::step(board, frame, dac, fx, x);
+    let a = promise::step(board, frame, dac, fx, x);
     let outcome = a.outcome;
     let rx = a.rx;
     let mix = a.mix;

@@ -12,7 +12,9 @@ number-requires c κs = search needs
 
 returns : tie.Need-returns
 unfolding numbered inputsOf
-returns c = rw (← c .before .before .before .before .step .ensures, ← c .number .ensures)
+returns c =
+    let a = c .before .before .before .before .step in
+    record { is = rw (← a .ensures .0, ← c .number .ensures); call = rw (← a .ensures .0) (a .ensures .1) }
 
 pub rytm-step-spec : {M : Type 1} → statement M
 rytm-step-spec = tie.close (tie.spec step-requires number-requires returns)

@@ -80,18 +80,18 @@ unfoldable pub refusedOf : Analog → Outcome → Answer
 refusedOf b o = record { outcome = o; rx = replicate 12 (pos 0); mix = record { l = k0; r = k0 }; board = b }
 
 -- "Receive words 8, 9 are the audio inputs halved, 10, 11 the mix halved"
-abbrev pub RX_AUDIO_IN : ℕ
-RX_AUDIO_IN = 8
+abbrev pub RX-AUDIO-IN : ℕ
+RX-AUDIO-IN = 8
 
-abbrev pub RX_MAIN : ℕ
-RX_MAIN = 10
+abbrev pub RX-MAIN : ℕ
+RX-MAIN = 10
 
 unfoldable pub wordsOf : List ℤ → Mix → Mix → List ℤ
 wordsOf rx audio mix =
-    let a = set rx RX_AUDIO_IN (to24Of (audio .l ⊗ k0p5)) in
-    let b = set a (RX_AUDIO_IN + 1) (to24Of (audio .r ⊗ k0p5)) in
-    let c = set b RX_MAIN (to24Of (mix .l ⊗ k0p5)) in
-    set c (RX_MAIN + 1) (to24Of (mix .r ⊗ k0p5))
+    let a = set rx RX-AUDIO-IN (to24Of (audio .l ⊗ k0p5)) in
+    let b = set a (RX-AUDIO-IN + 1) (to24Of (audio .r ⊗ k0p5)) in
+    let c = set b RX-MAIN (to24Of (mix .l ⊗ k0p5)) in
+    set c (RX-MAIN + 1) (to24Of (mix .r ⊗ k0p5))
 
 -- the board's sources before any has sounded
 unfoldable pub takenOf : Analog → Sources

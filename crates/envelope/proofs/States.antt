@@ -1,7 +1,7 @@
 -- What holds of every kind of envelope: its level follows its move, a record that it has just seen restarts nothing, and one that never stops it neither
 -- holds nor parks it. Assumes nothing.
-use Prim.Native.Nat.{ℕ, zero, suc}
-use mathlib.Core.Path.{_≡_, refl, ap}
+use Prim.Native.Nat.{ℕ, zero, suc, _+_}
+use mathlib.Core.Path.{_≡_, refl, sym, ap, _∙_, subst}
 use mathlib.Core.Bool.{Bool, true, false, not, _&&_, _||_}
 use mathlib.Core.List.{List}
 use lib.ListN.{getD}
@@ -10,9 +10,14 @@ use lib.Ieee.{Float}
 use lib.Ieee.Bits.{is-true}
 use borrow.Author.Tests.{eq-eqb}
 use Rattle.envelope.specs.declared.Key.{Key}
-use Rattle.envelope.specs.Record.{modeOf, recordOf}
+use Rattle.frame.specs.Frame.{Bytes}
+use Rattle.envelope.specs.Record.{modeOf, recordOf, tickLevel}
 use Rattle.envelope.specs.Moves.{settle, alike, keyOf, sameKey, ramps, holdOf, segStarts, dualMove, dualOf, hitMove, hitOf, segMove, segOf}
-use Rattle.envelope.specs.States.{State, dual, hit, chainAmp, chainFilter, levelIn, moveIn, afterIn, NeverStops}
+use Rattle.envelope.specs.States.{State, dual, hit, chainAmp, chainFilter, levelIn, moveIn, afterIn, afterTimes, NeverStops}
+use Rattle.envelope.specs.Levels.{Level, ticks}
+use Rattle.envelope.proofs.Ranges.{record-in}
+use Rattle.envelope.proofs.Run.{ticks-stay}
+use Rattle.envelope.proofs.Settle.{settle-in}
 
 pub level-after : (s : State) (r : List ℕ) → levelIn (afterIn s r) ≡ settle (moveIn s r) (levelIn s)
 unfolding dualOf hitOf segOf
@@ -87,3 +92,30 @@ never-stops-after (dual last x) a r t = t
 never-stops-after (hit mode x) a r t = t
 never-stops-after (chainAmp e) a r t = t
 never-stops-after (chainFilter e) a r t = t
+
+-- ---- one tick, and the arrival of an envelope that sees one record again and again
+pub one-tick : (s : State) (r : List ℕ) → moveIn s r .restarted ≡ false → moveIn s r .held ≡ false → moveIn s r .parked ≡ false → levelIn (afterIn s r) ≡ tickLevel (levelIn s) (recordOf r .target) (recordOf r .step)
+unfolding settle
+one-tick s r a b c = level-after s r ∙ (simp (a, b, c, move-bytes s r))
+
+module _ (s : State) (r : List ℕ) (B : Bytes r) (l : Level (levelIn s)) (t : NeverStops s r) where
+  first-level : Level (levelIn (afterIn s r))
+  first-level = subst (λ (x : Float). Level x) (sym (level-after s r)) (settle-in (moveIn s r) (levelIn s) (subst (λ (q : List ℕ). Bytes q) (sym (move-bytes s r)) B) l)
+
+  kept : (n : ℕ) → NeverStops (afterTimes (suc n) s r) r
+  unfolding afterTimes
+  kept zero = never-stops-after s r r t
+  kept (suc n) = never-stops-after (afterIn (afterTimes n s r) r) r r (kept n)
+
+  -- after the first, which may restart it, each is a tick
+  ticked-times : (n : ℕ) → levelIn (afterTimes (suc n) s r) ≡ ticks n (levelIn (afterIn s r)) (recordOf r .target) (recordOf r .step)
+  unfolding afterTimes ticks
+  ticked-times zero = refl
+  ticked-times (suc n) =
+      let x = afterIn (afterTimes n s r) r in
+      one-tick x r (seen-restarts-nothing (afterTimes n s r) r) (never-held x r (kept n)) (never-parked x r (kept n))
+      ∙ ap (λ (y : Float). tickLevel y (recordOf r .target) (recordOf r .step)) (ticked-times n)
+
+  -- so 131,073 of them, and any number more, bring it onto its target
+  pub settles-alone : (n : ℕ) → levelIn (afterTimes (suc (131072 + n)) s r) ≡ recordOf r .target
+  settles-alone n = let k = record-in r B in ticked-times (131072 + n) ∙ ticks-stay (recordOf r .target) (recordOf r .step) (k .target .0) (k .step) (levelIn (afterIn s r)) first-level n

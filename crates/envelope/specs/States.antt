@@ -1,5 +1,5 @@
 -- An envelope of any kind: what it keeps, the move that a record makes of it, and what it keeps after that. Definitions only.
-use Prim.Native.Nat.{ℕ}
+use Prim.Native.Nat.{ℕ, zero, suc}
 use mathlib.Core.Bool.{Bool, true, false}
 use mathlib.Core.List.{List}
 use lib.Dec.{T}
@@ -34,6 +34,11 @@ afterIn (dual last x) r = dual r (dualOf last r (record { level = x }) .level)
 afterIn (hit mode x) r = hit (modeOf r) (hitOf mode r (record { level = x }) .level)
 afterIn (chainAmp e) r = chainAmp (segOf true r e)
 afterIn (chainFilter e) r = chainFilter (segOf false r e)
+
+-- and after the same record n times
+unfoldable pub afterTimes : ℕ → State → List ℕ → State
+afterTimes zero s r = s
+afterTimes (suc n) s r = afterIn (afterTimes n s r) r
 
 -- a record that neither holds nor parks an envelope of its kind, by its bytes alone: a dual voice's always, the hat's and the cymbal's with a first word
 -- other than zero, a chain's with mode 9, B or F

@@ -11,14 +11,14 @@ use Rattle.frame.specs.Frame.{Bytes}
 use Rattle.frame.proofs.Sizes.{bytes-in}
 use Rattle.envelope.specs.Record.{recordOf, tickLevel}
 use Rattle.envelope.specs.Moves.{Move, given, stood, ticked, settle}
-use Rattle.envelope.specs.States.{State, moveIn, afterIn, NeverStops}
+use Rattle.envelope.specs.States.{State, levelIn, afterIn, NeverStops}
 use Rattle.envelope.specs.Levels.{Level, Between, Equal}
 use Rattle.envelope.specs.Levels.{ticks as tickTimes}
 use Rattle.envelope.proofs.Ranges.{record-in}
 use Rattle.envelope.proofs.Arrive.{tick-stays, tick-equal}
 use Rattle.envelope.proofs.Run.{ticks-stay}
 use Rattle.envelope.proofs.Settle.{settle-between}
-use Rattle.envelope.proofs.States.{move-bytes, seen-restarts-nothing, never-held, never-parked, never-stops-after}
+use Rattle.envelope.proofs.States.{move-bytes, one-tick, seen-restarts-nothing, never-held, never-parked, never-stops-after}
 use Rattle.board.specs.declared.Analog.{Analog}
 use Rattle.promise.specs.Calls.{Given, Call, givenOf, taken, nextOf, reachedOf}
 use Rattle.promise.specs.Levels.{Which, offsetAt, stateAt, levelAt, recordAt, moveAt}
@@ -64,7 +64,6 @@ module _ (w : Which) (bytes : List ℕ) where
     rest : ticks b k w ≡ false → levelAt (nextOf b k) w ≡ levelAt b w → One b k
 
   one : (b : Analog) (k : Call) → Good b → (T (taken k) → Continues w bytes b (givenOf k)) → One b k
-  unfolding settle
   one b k g h = by (taken k) refl
     where
       by : (t : Bool) → taken k ≡ t → One b k
@@ -72,10 +71,9 @@ module _ (w : Which) (bytes : List ℕ) where
           let c = h (so (taken k) e) in
           let s = stateAt b w in
           let r = recordAt (givenOf k .frame) w in
-          let m : moveIn s r .bytes ≡ bytes = move-bytes s r ∙ c .unchanged in
           tick (subst (λ (l : List ℕ). Bytes l) (c .unchanged) (carried-bytes k w))
           (simp (e, c .not-parked, c .not-held))
-          (call-moves b k g w ∙ (simp (e, c .not-parked, c .not-held, c .not-restarted, m)))
+          (ap levelIn (call-state b k g w ∙ (simp e)) ∙ one-tick s r (c .not-restarted) (c .not-held) (c .not-parked) ∙ (simp (c .unchanged)))
       by false e = rest (simp e) (call-moves b k g w ∙ ap (λ (t : Bool). cond t (settle (moveOf b k w) (levelAt b w)) (levelAt b w)) e)
 
   shift : (n : ℕ) (x t s : Float) → tickTimes n (tickLevel x t s) t s ≡ tickTimes (suc n) x t s

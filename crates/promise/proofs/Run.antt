@@ -71,9 +71,10 @@ module _ (w : Which) (bytes : List ℕ) where
           let c = h (so (taken k) e) in
           let s = stateAt b w in
           let r = recordAt (givenOf k .frame) w in
+          let q : stateAt (nextOf b k) w ≡ afterIn s r = call-state b k g w ∙ ap (λ (t : Bool). cond t (afterIn s r) s) e in
           tick (subst (λ (l : List ℕ). Bytes l) (c .unchanged) (carried-bytes k w))
           (simp (e, c .not-parked, c .not-held))
-          (ap levelIn (call-state b k g w ∙ (simp e)) ∙ one-tick s r (c .not-restarted) (c .not-held) (c .not-parked) ∙ (simp (c .unchanged)))
+          (ap levelIn q ∙ one-tick s r (c .not-restarted) (c .not-held) (c .not-parked) ∙ ap (λ (l : List ℕ). tickLevel (levelAt b w) (recordOf l .target) (recordOf l .step)) (c .unchanged))
       by false e = rest (simp e) (call-moves b k g w ∙ ap (λ (t : Bool). cond t (settle (moveOf b k w) (levelAt b w)) (levelAt b w)) e)
 
   shift : (n : ℕ) (x t s : Float) → tickTimes n (tickLevel x t s) t s ≡ tickTimes (suc n) x t s

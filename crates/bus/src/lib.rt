@@ -6,7 +6,13 @@ ghost use mathlib.Core.Bool.{Bool};
 ghost use Prim.Native.Nat.{_≤_, _<_};
 ghost use lib.ListN.{length, getD};
 ghost use lib.IntN.{pos};
+ghost use Rattle.frame.specs.Offsets.{FRAME-BYTES, VCA-R};
 ghost use Rattle.bus.specs.Bus.{dacF, returnOf, contributionOf, addedOf, voicesOf, distortOf, masterOf};
+
+// The DAC words of the FX returns, left; right follows. Before the master distortion, and after it.
+const DAC_PRE: usize = 12;
+
+const DAC_POST: usize = 14;
 
 // DAC word i / 2^23.
 fn dac_f32(dac: &[i32], i: usize) -> f32
@@ -26,7 +32,7 @@ fn returned(dac: &[i32], i: usize) -> f32
 
 // What voice v adds to a side, whose VCA words stand from `vca` on.
 fn contribution(f: &[u8], vca: usize, v: usize, y: f32) -> f32
-    requires { ⌜ (664 ≤ length (now f)) × (vca ≤ 26) × (v < 8) ⌝ }
+    requires { ⌜ (FRAME-BYTES ≤ length (now f)) × (vca ≤ VCA-R) × (v < 8) ⌝ }
     ensures { λ r. ⌜ r ≡ contributionOf (now (f .entry)) vca v y ⌝ }
 {
     y * frame::word_f32(f, vca + 2 * v) / 32767.0
@@ -34,15 +40,15 @@ fn contribution(f: &[u8], vca: usize, v: usize, y: f32) -> f32
 
 // The mix with voice v's sample, unless it is routed off.
 fn added(f: &[u8], v: usize, m: Mix, y: f32) -> Mix
-    requires { ⌜ (664 ≤ length (now f)) × (v < 8) ⌝ }
+    requires { ⌜ (FRAME-BYTES ≤ length (now f)) × (v < 8) ⌝ }
     ensures { λ r. ⌜ r ≡ addedOf (now (f .entry)) v m y ⌝ }
 {
     if frame::routed_off(f, v) {
         return m;
     }
     Mix {
-        l: m.l + contribution(f, 10, v, y),
-        r: m.r + contribution(f, 26, v, y),
+        l: m.l + contribution(f, frame::VCA_L, v, y),
+        r: m.r + contribution(f, frame::VCA_R, v, y),
     }
 }
 
@@ -55,7 +61,7 @@ pub struct Bus {
 
 // Voices 0 to 7 in turn: each one's source and its DAC word through its chain.
 pub fn voices(chains: [Chain; 8], f: &[u8], dac: &[i32], src: [f32; 8]) -> Bus
-    requires { ⌜ (664 ≤ length (now f)) × (16 ≤ length (now dac)) ⌝ }
+    requires { ⌜ (FRAME-BYTES ≤ length (now f)) × (16 ≤ length (now dac)) ⌝ }
     ensures { λ r. ⌜ r ≡ voicesOf (now (f .entry)) (now (dac .entry)) src chains ⌝ }
 {
     let mut chains = chains;
@@ -78,10 +84,10 @@ pub fn voices(chains: [Chain; 8], f: &[u8], dac: &[i32], src: [f32; 8]) -> Bus
 
 // The master distortion, of the amount word 0.
 fn distort(f: &[u8], m: Mix) -> Mix
-    requires { ⌜ 664 ≤ length (now f) ⌝ }
+    requires { ⌜ FRAME-BYTES ≤ length (now f) ⌝ }
     ensures { λ r. ⌜ r ≡ distortOf (now (f .entry)) m ⌝ }
 {
-    let dist = float::clamp(frame::word_f32(f, 0) / 65536.0, 0.0, 1.0);
+    let dist = float::clamp(frame::word_f32(f, frame::DIST) / 65536.0, 0.0, 1.0);
     if 0.0 < dist {
         let k = 1.0 + 15.0 * dist;
         let n = tanh::tanh(k);
@@ -95,16 +101,16 @@ fn distort(f: &[u8], m: Mix) -> Mix
 
 // The FX returns before and after the distortion, written negated, and the external input.
 pub fn master(f: &[u8], dac: &[i32], m: Mix, ext: Mix) -> Mix
-    requires { ⌜ (664 ≤ length (now f)) × (16 ≤ length (now dac)) ⌝ }
+    requires { ⌜ (FRAME-BYTES ≤ length (now f)) × (16 ≤ length (now dac)) ⌝ }
     ensures { λ r. ⌜ r ≡ masterOf (now (f .entry)) (now (dac .entry)) m ext ⌝ }
 {
     let pre = Mix {
-        l: m.l + returned(dac, 12),
-        r: m.r + returned(dac, 13),
+        l: m.l + returned(dac, DAC_PRE),
+        r: m.r + returned(dac, DAC_PRE + 1),
     };
     let d = distort(f, pre);
     Mix {
-        l: d.l + returned(dac, 14) + ext.l,
-        r: d.r + returned(dac, 15) + ext.r,
+        l: d.l + returned(dac, DAC_POST) + ext.l,
+        r: d.r + returned(dac, DAC_POST + 1) + ext.r,
     }
 }

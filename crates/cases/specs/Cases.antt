@@ -7,6 +7,7 @@ use lib.IntN.{pos, negsuc}
 use lib.ListN.{getD}
 use lib.Ieee.{Float, nan, fin}
 use Rattle.float.specs.Floats.{to24Of}
+use Rattle.frame.specs.Offsets.{ROUTE}
 use Rattle.frame.specs.Frame.{routedOff}
 use Rattle.envelope.specs.declared.Record.{Record}
 use Rattle.envelope.specs.Record.{recordOf, stepOf, tickLevel}
@@ -47,7 +48,7 @@ pub record Cases : Type 0 where
   pub word2 : to24Of (fin false 1 (pos 1)) ≡ pos 8388607
   pub word3 : to24Of nan ≡ pos 0
   -- route byte 08 takes off voice 0 alone, 01 voice 3 alone
-  pub route1 : (f : List ℕ) → getD f 166 0 ≡ 0x08 → off f ≡ true ∷ false ∷ false ∷ false ∷ false ∷ false ∷ false ∷ false ∷ []
-  pub route2 : (f : List ℕ) → getD f 166 0 ≡ 0x01 → off f ≡ false ∷ false ∷ false ∷ true ∷ false ∷ false ∷ false ∷ false ∷ []
+  pub route1 : (f : List ℕ) → getD f ROUTE 0 ≡ 0x08 → off f ≡ true ∷ false ∷ false ∷ false ∷ false ∷ false ∷ false ∷ false ∷ []
+  pub route2 : (f : List ℕ) → getD f ROUTE 0 ≡ 0x01 → off f ≡ false ∷ false ∷ false ∷ true ∷ false ∷ false ∷ false ∷ false ∷ []
   -- random state 1 is followed by 270369
   pub random1 : xorshiftOf 1 ≡ 270369

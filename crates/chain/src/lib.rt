@@ -5,7 +5,8 @@ ghost use mathlib.Core.Path.{_≡_};
 ghost use mathlib.Core.Bool.{Bool};
 ghost use Prim.Native.Nat.{_≤_, _<_};
 ghost use lib.ListN.{length};
-ghost use Rattle.chain.specs.Chain.{chainNew, driveOf, cutoffOf, resOf, coefsOf, svfOf, lp1Of, pickOf, finiteOr, gainOf, readOf, filterOf, processOf};
+ghost use Rattle.frame.specs.Offsets.{FRAME-BYTES};
+ghost use Rattle.chain.specs.Chain.{chainNew, driveOf, cutoffOf, resOf, coefsOf, multimodeOf, lp1Of, pickOf, finiteOr, gainOf, settingsOf, filterOf, processOf};
 
 #[repr(C)]
 pub struct Chain {
@@ -23,7 +24,7 @@ pub struct ChainOut {
 }
 
 // What the frame says to a chain.
-pub struct Reads {
+pub struct Settings {
     pub ovr: f32,
     pub frq: f32,
     pub depth: f32,
@@ -34,18 +35,20 @@ pub struct Reads {
     pub rf: [u8; 8],
 }
 
-fn read(f: &[u8], v: usize) -> Reads
-    requires { ⌜ (664 ≤ length (now f)) × (v < 8) ⌝ }
-    ensures { λ r. ⌜ r ≡ readOf (now (f .entry)) v ⌝ }
-{
-    Reads {
-        ovr: frame::word_f32(f, 42 + 2 * v),
-        frq: frame::signed_f32(f, 58 + 2 * v),
-        depth: frame::signed_f32(f, 296 + 8 * v),
-        res: frame::word_f32(f, 74 + 2 * v),
-        kind: FltType::from_code(frame::flt_code(f, v)),
-        ra: frame::bytes(f, 168 + 8 * v),
-        rf: frame::bytes(f, 296 + 8 * v),
+impl Settings {
+    fn read(f: &[u8], v: usize) -> Settings
+        requires { ⌜ (FRAME-BYTES ≤ length (now f)) × (v < 8) ⌝ }
+        ensures { λ r. ⌜ r ≡ settingsOf (now (f .entry)) v ⌝ }
+    {
+        Settings {
+            ovr: frame::word_f32(f, frame::OVR + 2 * v),
+            frq: frame::signed_f32(f, frame::FRQ + 2 * v),
+            depth: frame::signed_f32(f, frame::FLT_ENV + 8 * v),
+            res: frame::word_f32(f, frame::RES + 2 * v),
+            kind: FltType::from_code(frame::flt_code(f, v)),
+            ra: frame::bytes(f, frame::AMP_ENV + 8 * v),
+            rf: frame::bytes(f, frame::FLT_ENV + 8 * v),
+        }
     }
 }
 
@@ -73,7 +76,7 @@ pub fn cutoff(frq: f32, depth: f32, level: f32) -> f32
 fn resonance(word: f32) -> f32
     ensures { λ r. ⌜ r ≡ resOf word ⌝ }
 {
-    float::clamp(word / 32512.0, 0.0, 1.0)
+    float::clamp(word / (127.0 * 256.0), 0.0, 1.0)
 }
 
 // The filter's tangent, damping and quotients.
@@ -87,7 +90,7 @@ pub struct Coefs {
 fn coefficients(fc: f32, res: f32) -> Coefs
     ensures { λ r. ⌜ r ≡ coefsOf fc res ⌝ }
 {
-    let g = sine::tan(3.1415927 * float::min(fc, 21600.0) / 48000.0);
+    let g = sine::tan(float::PI * float::min(fc, float::FS * 0.45) / float::FS);
     let k = 2.0 * (1.0 - 0.97 * res);
     let a1 = 1.0 / (1.0 + g * (g + k));
     Coefs {
@@ -99,7 +102,7 @@ fn coefficients(fc: f32, res: f32) -> Coefs
 }
 
 // The integrators' next states, and the three outputs.
-pub struct Svf {
+pub struct Multimode {
     pub low: f32,
     pub band: f32,
     pub lp: f32,
@@ -108,13 +111,13 @@ pub struct Svf {
 }
 
 // A topology-preserving state-variable filter.
-fn filter(low: f32, band: f32, x: f32, c: Coefs) -> Svf
-    ensures { λ r. ⌜ r ≡ svfOf low band x c ⌝ }
+fn filter(low: f32, band: f32, x: f32, c: Coefs) -> Multimode
+    ensures { λ r. ⌜ r ≡ multimodeOf low band x c ⌝ }
 {
     let v3 = x - low;
     let bp = c.a1 * band + c.a2 * v3;
     let lp = low + c.a2 * band + c.a3 * v3;
-    Svf {
+    Multimode {
         low: 2.0 * lp - low,
         band: 2.0 * bp - band,
         lp,
@@ -126,12 +129,12 @@ fn filter(low: f32, band: f32, x: f32, c: Coefs) -> Svf
 fn one_pole(lp1: f32, x: f32, fc: f32) -> f32
     ensures { λ r. ⌜ r ≡ lp1Of lp1 x fc ⌝ }
 {
-    let a = 1.0 - power::exp(-6.2831855 * fc / 48000.0);
+    let a = 1.0 - power::exp(-float::TAU * fc / float::FS);
     lp1 + a * (x - lp1)
 }
 
 // The output of the filter's type.
-fn pick(kind: FltType, s: Svf, lp1: f32, x: f32, k: f32, res: f32) -> f32
+fn pick(kind: FltType, s: Multimode, lp1: f32, x: f32, k: f32, res: f32) -> f32
     ensures { λ r. ⌜ r ≡ pickOf kind s lp1 x k res ⌝ }
 {
     match kind {
@@ -153,7 +156,7 @@ pub struct Filtered {
     pub y: f32,
 }
 
-fn replace(s: Svf, lp1: f32, y: f32) -> Filtered
+fn replace(s: Multimode, lp1: f32, y: f32) -> Filtered
     ensures { λ r. ⌜ r ≡ finiteOr s lp1 y ⌝ }
 {
     if float::is_finite(y) {
@@ -173,7 +176,7 @@ fn replace(s: Svf, lp1: f32, y: f32) -> Filtered
 }
 
 // The filter of a chain with cutoff fc, on the driven sample x.
-fn run_filter(c: Chain, i: Reads, fc: f32, x: f32) -> Filtered
+fn run_filter(c: Chain, i: Settings, fc: f32, x: f32) -> Filtered
     ensures { λ r. ⌜ r ≡ filterOf c i fc x ⌝ }
 {
     let res = resonance(i.res);
@@ -191,7 +194,7 @@ fn gain(level: f32) -> f32
     if level <= 0.0 {
         return 0.0;
     }
-    power::exp2((level - 127.0) / 16.0)
+    power::exp2((level - 127.0) / float::LEVELS_PER_6DB)
 }
 
 impl Chain {
@@ -219,10 +222,10 @@ impl Chain {
 
     // One sample of voice v's chain.
     pub fn process(self, f: &[u8], v: usize, x: f32) -> ChainOut
-        requires { ⌜ (664 ≤ length (now f)) × (v < 8) ⌝ }
+        requires { ⌜ (FRAME-BYTES ≤ length (now f)) × (v < 8) ⌝ }
         ensures { λ r. ⌜ r ≡ processOf (now (f .entry)) v x self ⌝ }
     {
-        let i = read(f, v);
+        let i = Settings::read(f, v);
         let rf = i.rf;
         let ra = i.ra;
         let flt = self.flt.tick(rf, false);

@@ -6,7 +6,7 @@ use lib.ListN.{getD}
 use lib.Dec.{eqb}
 use lib.IntN.{pos}
 use lib.Ieee.{Float, binary32, nan, le, ofInt}
-use Rattle.float.specs.Consts.{k0, k1, k2, k3, k16, k127, k32767, FS, k0p3, k0p7, kM128, kM127p5, TAU, kHzPerTune, kTunePerLevel}
+use Rattle.float.specs.Consts.{k0, k1, k2, k3, LEVELS-PER-6DB, k127, k32767, FS, k0p3, k0p7, kM128, kM127p5, TAU, kHzPerTune, kTunePerLevel}
 use Rattle.float.specs.Ops.{_⊕_, _⊖_, _⊗_, _⊘_}
 use Rattle.float.specs.Floats.{maxOf, clampOf}
 use Rattle.frame.specs.Frame.{wordAt, bitAt, bytesAt}
@@ -82,7 +82,7 @@ hzOf tune pitch det ratio = (ofInt binary32 (pos tune) ⊕ maxOf pitch k0 ⊗ kT
 
 -- "The dual gain is 0 at or below -127.5", else 2 ^ ((level - 127) / 16)
 unfoldable pub gainOf : Float → Float
-gainOf level = cond (le level kM127p5) k0 (exp2Of ((level ⊖ k127) ⊘ k16))
+gainOf level = cond (le level kM127p5) k0 (exp2Of ((level ⊖ k127) ⊘ LEVELS-PER-6DB))
 
 -- a level word, 1 nominal
 unfoldable pub wordLevel : ℕ → Float

@@ -45,10 +45,6 @@ k12 = ofBits binary32 0x41400000
 abbrev pub k15 : Float
 k15 = ofBits binary32 0x41700000
 
--- 16.0
-abbrev pub k16 : Float
-k16 = ofBits binary32 0x41800000
-
 -- 32.0
 abbrev pub k32 : Float
 k32 = ofBits binary32 0x42000000
@@ -64,6 +60,10 @@ k64 = ofBits binary32 0x42800000
 -- 127.0
 abbrev pub k127 : Float
 k127 = ofBits binary32 0x42fe0000
+
+-- 256.0
+abbrev pub k256 : Float
+k256 = ofBits binary32 0x43800000
 
 -- 440.0
 abbrev pub k440 : Float
@@ -105,10 +105,6 @@ k16000 = ofBits binary32 0x467a0000
 abbrev pub k22000 : Float
 k22000 = ofBits binary32 0x46abe000
 
--- 32512.0
-abbrev pub k32512 : Float
-k32512 = ofBits binary32 0x46fe0000
-
 -- 32767.0
 abbrev pub k32767 : Float
 k32767 = ofBits binary32 0x46fffe00
@@ -116,10 +112,6 @@ k32767 = ofBits binary32 0x46fffe00
 -- 32768.0
 abbrev pub k32768 : Float
 k32768 = ofBits binary32 0x47000000
-
--- 48000.0
-abbrev pub FS : Float
-FS = ofBits binary32 0x473b8000
 
 -- 65535.0
 abbrev pub k65535 : Float
@@ -225,13 +217,21 @@ kM128 = neg (ofBits binary32 0x43000000)
 abbrev pub kM127p5 : Float
 kM127p5 = neg (ofBits binary32 0x42ff0000)
 
--- TAU
+-- the sample rate, 48000.0
+abbrev pub FS : Float
+FS = ofBits binary32 0x473b8000
+
+-- a circle over its radius, 6.2831855
 abbrev pub TAU : Float
 TAU = ofBits binary32 0x40c90fdb
 
--- PI
+-- and over its diameter, 3.1415927
 abbrev pub PI : Float
 PI = ofBits binary32 0x40490fdb
+
+-- envelope levels per 6 dB, 16.0
+abbrev pub LEVELS-PER-6DB : Float
+LEVELS-PER-6DB = ofBits binary32 0x41800000
 
 -- u32::MAX as f32
 abbrev pub kUMax : Float
@@ -249,10 +249,6 @@ kTunePerLevel = ofBits binary32 0x439e3333
 abbrev pub kDriftA : Float
 kDriftA = ofBits binary32 0x3aaec33e
 
--- FS * 0.45
-abbrev pub k21600 : Float
-k21600 = ofBits binary32 0x46a8c000
-
 -- the f32 nearest to n / d
 unfoldable pub near : ℕ → ℕ → Float
 near n d = round binary32 false n d
@@ -268,11 +264,11 @@ pub record Constants : Type 0 where
   pub c10 : k10 ≡ near 10 1
   pub c12 : k12 ≡ near 12 1
   pub c15 : k15 ≡ near 15 1
-  pub c16 : k16 ≡ near 16 1
   pub c32 : k32 ≡ near 32 1
   pub c60 : k60 ≡ near 60 1
   pub c64 : k64 ≡ near 64 1
   pub c127 : k127 ≡ near 127 1
+  pub c256 : k256 ≡ near 256 1
   pub c440 : k440 ≡ near 440 1
   pub c500 : k500 ≡ near 500 1
   pub c512 : k512 ≡ near 512 1
@@ -283,10 +279,8 @@ pub record Constants : Type 0 where
   pub c12000 : k12000 ≡ near 12000 1
   pub c16000 : k16000 ≡ near 16000 1
   pub c22000 : k22000 ≡ near 22000 1
-  pub c32512 : k32512 ≡ near 32512 1
   pub c32767 : k32767 ≡ near 32767 1
   pub c32768 : k32768 ≡ near 32768 1
-  pub cFS : FS ≡ near 48000 1
   pub c65535 : k65535 ≡ near 65535 1
   pub c65536 : k65536 ≡ near 65536 1
   pub c8388607 : k8388607 ≡ near 8388607 1
@@ -313,10 +307,11 @@ pub record Constants : Type 0 where
   pub c127p5 : k127p5 ≡ near 255 2
   pub cM128 : kM128 ≡ neg (near 128 1)
   pub cM127p5 : kM127p5 ≡ neg (near 255 2)
+  pub cFS : FS ≡ near 48000 1
   pub cTAU : TAU ≡ near 628318530717958 100000000000000
   pub cPI : PI ≡ near 314159265358979 100000000000000
+  pub cLEVELS-PER-6DB : LEVELS-PER-6DB ≡ near 16 1
   pub cUMax : kUMax ≡ ofInt binary32 (pos 4294967295)
   pub cHzPerTune : kHzPerTune ≡ div binary32 (near 55 1) (near 678 1)
   pub cTunePerLevel : kTunePerLevel ≡ div binary32 (mul binary32 (near 678 1) (near 7 1)) (near 15 1)
   pub cDriftA : kDriftA ≡ div binary32 (div binary32 k32 FS) k0p5
-  pub c21600 : k21600 ≡ mul binary32 FS k0p45

@@ -8,6 +8,15 @@ ghost use lib.Ieee.Scale.{finite};
 ghost use Rattle.float.specs.Consts.{k1};
 ghost use Rattle.float.specs.Floats.{absOf, signumOf, minOf, maxOf, clampOf, fractOf, remEuclidOf, to24Of};
 
+// The sample rate.
+pub const FS: f32 = 48000.0;
+
+pub const TAU: f32 = 6.2831855;
+
+pub const PI: f32 = 3.1415927;
+// Envelope levels per 6 dB.
+pub const LEVELS_PER_6DB: f32 = 16.0;
+
 pub fn abs(x: f32) -> f32
     ensures { λ r. ⌜ r ≡ absOf x ⌝ }
 {

@@ -11,7 +11,7 @@ use Rattle.frame.specs.declared.DualSpec.{DualSpec}
 use Rattle.frame.specs.declared.TomSpec.{TomSpec}
 use Rattle.frame.specs.declared.CymPath.{CymPath}
 use Rattle.frame.specs.declared.FltAt.{FltAt}
-use Rattle.frame.specs.Offsets.{duals, dualSpec, toms, tomSpec, cymPaths, cymPath, fltTypeAt, fltAt, routeBits, routeBit}
+use Rattle.frame.specs.Offsets.{FRAME-BYTES, SWITCHES, duals, dualSpec, toms, tomSpec, cymPaths, cymPath, fltTypeAt, fltAt, routeBits, routeBit}
 
 abbrev pub every : {A : Type 0} → (A → Bool) → List A → Bool
 every p [] = true
@@ -33,11 +33,11 @@ abbrev switches : List ℕ → Bool
 switches sw = every (λ n. ltb n 64) sw
 
 abbrev dualInside : DualSpec → Bool
-dualInside s = leb (s .cv + 8) 664 && (leb (s .env + 32) 664 && (ltb (s .voice) 8 && (switches (s .sw) && leb 7 (length (s .sw)))))
+dualInside s = leb (s .cv + 8) FRAME-BYTES && (leb (s .env + 32) FRAME-BYTES && (ltb (s .voice) 8 && (switches (s .sw) && leb 7 (length (s .sw)))))
 
 pub record DualInside (s : DualSpec) : Type 0 where
-  pub cv : s .cv + 8 ≤ 664
-  pub env : s .env + 32 ≤ 664
+  pub cv : s .cv + 8 ≤ FRAME-BYTES
+  pub env : s .env + 32 ≤ FRAME-BYTES
   pub voice : s .voice < 8
   pub sw : (k : ℕ) → k < 7 → getD (s .sw) k 0 < 64
 
@@ -49,8 +49,8 @@ dual-inside d = says (dualSpec d) tested
 
     says : (s : DualSpec) → T (dualInside s) → DualInside s
     says s t =
-        let a = leb (s .cv + 8) 664 in
-        let b = leb (s .env + 32) 664 in
+        let a = leb (s .cv + 8) FRAME-BYTES in
+        let b = leb (s .env + 32) FRAME-BYTES in
         let c = ltb (s .voice) 8 in
         let e = switches (s .sw) in
         let n = leb 7 (length (s .sw)) in
@@ -59,19 +59,19 @@ dual-inside d = says (dualSpec d) tested
         let t3 = and-r c (e && n) t2 in
         let l : 7 ≤ length (s .sw) = leb→le 7 (length (s .sw)) (and-r e n t3) in
         record {
-          cv = leb→le (s .cv + 8) 664 (and-l a (b && (c && (e && n))) t);
-          env = leb→le (s .env + 32) 664 (and-l b (c && (e && n)) t1);
+          cv = leb→le (s .cv + 8) FRAME-BYTES (and-l a (b && (c && (e && n))) t);
+          env = leb→le (s .env + 32) FRAME-BYTES (and-l b (c && (e && n)) t1);
           voice = ltb→lt (s .voice) 8 (and-l c (e && n) t2);
           sw = λ k h. ltb→lt (getD (s .sw) k 0) 64 (every-at (λ n. ltb n 64) (s .sw) 0 (and-l e n t3) k (omega arith));
         }
 
 -- ---- a tom: two words, one of sixteen DAC words
 abbrev tomInside : TomSpec → Bool
-tomInside s = leb (s .tune + 2) 664 && (leb (s .decay + 2) 664 && (ltb (s .voice) 8 && ltb (s .dac) 16))
+tomInside s = leb (s .tune + 2) FRAME-BYTES && (leb (s .decay + 2) FRAME-BYTES && (ltb (s .voice) 8 && ltb (s .dac) 16))
 
 pub record TomInside (s : TomSpec) : Type 0 where
-  pub tune : s .tune + 2 ≤ 664
-  pub decay : s .decay + 2 ≤ 664
+  pub tune : s .tune + 2 ≤ FRAME-BYTES
+  pub decay : s .decay + 2 ≤ FRAME-BYTES
   pub voice : s .voice < 8
   pub dac : s .dac < 16
 
@@ -83,15 +83,15 @@ tom-inside t = says (tomSpec t) tested
 
     says : (s : TomSpec) → T (tomInside s) → TomInside s
     says s t =
-        let a = leb (s .tune + 2) 664 in
-        let b = leb (s .decay + 2) 664 in
+        let a = leb (s .tune + 2) FRAME-BYTES in
+        let b = leb (s .decay + 2) FRAME-BYTES in
         let c = ltb (s .voice) 8 in
         let d = ltb (s .dac) 16 in
         let t1 = and-r a (b && (c && d)) t in
         let t2 = and-r b (c && d) t1 in
         record {
-          tune = leb→le (s .tune + 2) 664 (and-l a (b && (c && d)) t);
-          decay = leb→le (s .decay + 2) 664 (and-l b (c && d) t1);
+          tune = leb→le (s .tune + 2) FRAME-BYTES (and-l a (b && (c && d)) t);
+          decay = leb→le (s .decay + 2) FRAME-BYTES (and-l b (c && d) t1);
           voice = ltb→lt (s .voice) 8 (and-l c d t2);
           dac = ltb→lt (s .dac) 16 (and-r c d t2);
         }
@@ -105,14 +105,14 @@ cym-inside p = ltb→lt (cymPath p .rec) 8 tested
 
 -- ---- a filter type: a switch byte, three of its bits
 abbrev fltInside : FltAt → Bool
-fltInside a = ltb (a .byte) 168 && ltb (a .lo) 6
+fltInside a = ltb (a .byte) (SWITCHES + 8) && ltb (a .lo) 6
 
 pub record FltInside (a : FltAt) : Type 0 where
-  pub byte : a .byte < 168
+  pub byte : a .byte < SWITCHES + 8
   pub lo : a .lo < 6
 
 pub flt-inside : (v : ℕ) → FltInside (fltAt v)
-flt-inside v = record { byte = ltb→lt (fltAt v .byte) 168 (and-l (ltb (fltAt v .byte) 168) (ltb (fltAt v .lo) 6) tested); lo = ltb→lt (fltAt v .lo) 6 (and-r (ltb (fltAt v .byte) 168) (ltb (fltAt v .lo) 6) tested) }
+flt-inside v = record { byte = ltb→lt (fltAt v .byte) (SWITCHES + 8) (and-l (ltb (fltAt v .byte) (SWITCHES + 8)) (ltb (fltAt v .lo) 6) tested); lo = ltb→lt (fltAt v .lo) 6 (and-r (ltb (fltAt v .byte) (SWITCHES + 8)) (ltb (fltAt v .lo) 6) tested) }
   where
     tested : T (fltInside (fltAt v))
     tested = unfold fltAt fltTypeAt in every-at fltInside fltTypeAt (record { byte = 0; lo = 0 }) tt (min v 7) (capped v 7)

@@ -6,7 +6,7 @@ use lib.ListN.{getD}
 use lib.Dec.{ltb, eqb}
 use lib.IntN.{ℤ, pos, negsuc}
 use lib.Ieee.{Float, binary32, ofInt}
-use Rattle.frame.specs.Offsets.{fltAt, routeBit}
+use Rattle.frame.specs.Offsets.{SWITCHES, ROUTE, fltAt, routeBit}
 use Rattle.frame.specs.declared.FltType.{FltType}
 use Rattle.frame.specs.declared.FltType.the-variants.{Lp2, Lp1, Bp, Hp1, Hp2, Bs, Pk}
 
@@ -35,7 +35,7 @@ bitOf b k = not (eqb (b / 2 ^ k % 2) 0)
 
 -- switch n: bit n mod 8 of byte 160 + n div 8
 abbrev pub bitAt : List ℕ → ℕ → Bool
-bitAt f n = bitOf (getD f (160 + n / 8) 0) (n % 8)
+bitAt f n = bitOf (getD f (SWITCHES + n / 8) 0) (n % 8)
 
 -- a metal oscillator's 32-bit field, its low 22 bits
 abbrev pub fieldAt : List ℕ → ℕ → ℕ
@@ -48,7 +48,7 @@ bytesAt f o =
 
 -- a set bit of the route mask keeps its voice from the mix
 unfoldable pub routedOff : List ℕ → ℕ → Bool
-routedOff f v = bitOf (getD f 166 0) (routeBit v)
+routedOff f v = bitOf (getD f ROUTE 0) (routeBit v)
 
 -- a voice's filter code: three bits
 unfoldable pub fltCode : List ℕ → ℕ → ℕ

@@ -1,4 +1,4 @@
--- Where the control frame has what: one offset or one table for each kind of field. Definitions only.
+-- Where the control frame has what, under the source's names: one offset or one table for each kind of field. Definitions only.
 use Prim.Native.Nat.{ℕ, min}
 use mathlib.Core.Bool.{true, false}
 use mathlib.Core.List.{List, [], _∷_}
@@ -8,6 +8,95 @@ use Rattle.frame.specs.declared.DualSpec.{DualSpec}
 use Rattle.frame.specs.declared.TomSpec.{TomSpec}
 use Rattle.frame.specs.declared.CymPath.{CymPath}
 use Rattle.frame.specs.declared.FltAt.{FltAt}
+
+-- what a step reads of a frame: "frame under 664 bytes" is refused
+abbrev pub FRAME-BYTES : ℕ
+FRAME-BYTES = 664
+
+-- "distortion from word 0"
+abbrev pub DIST : ℕ
+DIST = 0
+
+-- "the VCA word at 10+2v (left), 26+2v (right)"
+abbrev pub VCA-L : ℕ
+VCA-L = 10
+
+abbrev pub VCA-R : ℕ
+VCA-R = 26
+
+-- voice v's overdrive, a word at 42 + 2v
+abbrev pub OVR : ℕ
+OVR = 42
+
+-- its filter frequency, a signed word at 58 + 2v
+abbrev pub FRQ : ℕ
+FRQ = 58
+
+-- its resonance, a word at 74 + 2v
+abbrev pub RES : ℕ
+RES = 74
+
+-- the hat's colour, a signed word, and its VCA
+abbrev pub HAT-COLOUR : ℕ
+HAT-COLOUR = 130
+
+abbrev pub HAT-VCA : ℕ
+HAT-VCA = 140
+
+-- the cymbal's colour, a signed word, and its VCA
+abbrev pub CYM-COLOUR : ℕ
+CYM-COLOUR = 142
+
+abbrev pub CYM-VCA : ℕ
+CYM-VCA = 158
+
+-- "Switch n is bit n mod 8 of byte 160 + n div 8"
+abbrev pub SWITCHES : ℕ
+SWITCHES = 160
+
+-- "Byte 166 is the route mask"
+abbrev pub ROUTE : ℕ
+ROUTE = 166
+
+-- "Chain amp (168+8v)"
+abbrev pub AMP-ENV : ℕ
+AMP-ENV = 168
+
+-- "Chain filter (296+8v)"; the record's first word, signed, is the envelope's depth
+abbrev pub FLT-ENV : ℕ
+FLT-ENV = 296
+
+-- "Hat (record at 488)"
+abbrev pub HAT-ENV : ℕ
+HAT-ENV = 488
+
+-- "cymbal (eight from 496)"
+abbrev pub CYM-ENV : ℕ
+CYM-ENV = 496
+
+-- the oscillator banks of hat and cymbal, six fields of four bytes
+abbrev pub HAT-BANK : ℕ
+HAT-BANK = 616
+
+abbrev pub CYM-BANK : ℕ
+CYM-BANK = 640
+
+-- the voices that hat and cymbal are
+abbrev pub HAT-VOICE : ℕ
+HAT-VOICE = 4
+
+abbrev pub CYM-VOICE : ℕ
+CYM-VOICE = 6
+
+-- a dual voice's records: of its four the first is the pitch's, the third the amplitude's, the fourth oscillator 2's amplitude's
+abbrev pub PITCH-REC : ℕ
+PITCH-REC = 0
+
+abbrev pub AMP-REC : ℕ
+AMP-REC = 2
+
+abbrev pub AMP2-REC : ℕ
+AMP2-REC = 3
 
 -- BD, SD and RS, as the source has them; a number past the end means the last
 unfoldable pub duals : List DualSpec
@@ -60,7 +149,7 @@ fltTypeAt =
 unfoldable pub fltAt : ℕ → FltAt
 fltAt v = getD fltTypeAt (min v 7) (record { byte = 0; lo = 0 })
 
--- "Byte 166 is the route mask": which bit is whose
+-- "bits 3, 2, 1, 0, 4, 5, 6, 7 belong to voices 0 to 7"
 unfoldable pub routeBits : List ℕ
 routeBits = 3 ∷ 2 ∷ 1 ∷ 0 ∷ 4 ∷ 5 ∷ 6 ∷ 7 ∷ []
 

@@ -3,7 +3,60 @@ ghost use mathlib.Core.Path.{_≡_};
 ghost use Prim.Native.Nat.{_+_, _*_, _/_, _<_, _≤_};
 ghost use lib.ListN.{length};
 ghost use Rattle.frame.specs.Frame.{wordAt, wordF, signedOf, signedF, bitAt, fieldAt, bytesAt, routedOff, fltCode, fltTypeOf};
-ghost use Rattle.frame.specs.Offsets.{dualSpec, tomSpec, cymPath, fltAt, routeBit};
+ghost use Rattle.frame.specs.Offsets.{FRAME-BYTES, SWITCHES, dualSpec, tomSpec, cymPath, fltAt, routeBit};
+
+// Where the frame has its fields, under the source's names. A voice v has its word at 2 * v and its record at 8 * v from there.
+
+// What a step reads of a frame: the last field is the cymbal's bank.
+pub const FRAME_BYTES: usize = 664;
+// The amount of the master distortion.
+pub const DIST: usize = 0;
+// The voices' VCA words, left and right.
+pub const VCA_L: usize = 10;
+
+pub const VCA_R: usize = 26;
+// The voices' overdrive, filter frequency and resonance.
+pub const OVR: usize = 42;
+
+pub const FRQ: usize = 58;
+
+pub const RES: usize = 74;
+// The colour and the VCA of hat and cymbal.
+pub const HAT_COLOUR: usize = 130;
+
+pub const HAT_VCA: usize = 140;
+
+pub const CYM_COLOUR: usize = 142;
+
+pub const CYM_VCA: usize = 158;
+// The switches' first byte.
+pub const SWITCHES: usize = 160;
+// The route mask.
+pub const ROUTE: usize = 166;
+// The voices' amp and filter records; a filter record's first word is the envelope's depth.
+pub const AMP_ENV: usize = 168;
+
+pub const FLT_ENV: usize = 296;
+// The hat's record, and the cymbal's eight.
+pub const HAT_ENV: usize = 488;
+
+pub const CYM_ENV: usize = 496;
+// The oscillator banks of hat and cymbal: six fields of four bytes.
+pub const HAT_BANK: usize = 616;
+
+pub const CYM_BANK: usize = 640;
+
+// The voices that hat and cymbal are.
+pub const HAT_VOICE: usize = 4;
+
+pub const CYM_VOICE: usize = 6;
+
+// Which of a dual voice's four records are the pitch's, the amplitude's and oscillator 2's amplitude's.
+pub const PITCH_REC: usize = 0;
+
+pub const AMP_REC: usize = 2;
+
+pub const AMP2_REC: usize = 3;
 
 // A dual-oscillator voice: its CV block (TUNE1, TUNE2, LEVEL1, LEVEL2), its four envelope records, its seven switches
 // (0 trig, 1 oscillator 1's wave, 2, 3 and 6 oscillator 2's wave, 4 FM on, 5 ring modulation, active low).
@@ -234,10 +287,10 @@ pub fn signed_f32(f: &[u8], o: usize) -> f32
 
 // Switch n.
 pub fn bit(f: &[u8], n: usize) -> bool
-    requires { ⌜ 160 + n / 8 < length (now f) ⌝ }
+    requires { ⌜ SWITCHES + n / 8 < length (now f) ⌝ }
     ensures { λ r. ⌜ r ≡ bitAt (now (f .entry)) n ⌝ }
 {
-    let k = 160 + (n >> 3);
+    let k = SWITCHES + (n >> 3);
     let b = f[k];
     let s = (n & 7) as u8;
     (b >> s) & 1 != 0
@@ -270,16 +323,16 @@ pub fn bytes(f: &[u8], o: usize) -> [u8; 8]
 
 // Whether voice v is kept from the main bus.
 pub fn routed_off(f: &[u8], v: usize) -> bool
-    requires { ⌜ 664 ≤ length (now f) ⌝ }
+    requires { ⌜ FRAME-BYTES ≤ length (now f) ⌝ }
     ensures { λ r. ⌜ r ≡ routedOff (now (f .entry)) v ⌝ }
 {
     let s = route_bit(v);
-    (f[166] >> s) & 1 != 0
+    (f[ROUTE] >> s) & 1 != 0
 }
 
 // Voice v's filter code, 0 to 7.
 pub fn flt_code(f: &[u8], v: usize) -> u8
-    requires { ⌜ 664 ≤ length (now f) ⌝ }
+    requires { ⌜ FRAME-BYTES ≤ length (now f) ⌝ }
     ensures { λ r. ⌜ r ≡ fltCode (now (f .entry)) v ⌝ }
 {
     let a = flt_at(v);

@@ -5,7 +5,7 @@ use mathlib.Core.List.{List}
 use lib.ListN.{replicate}
 use lib.Dec.{eqb}
 use lib.Ieee.{Float, le}
-use Rattle.float.specs.Consts.{k0, k1, k2, k6, k16, k127, k500, k6000, k16000, k32767, k32768, FS, k1p2, k1p5, kM128, kM127p5, PI}
+use Rattle.float.specs.Consts.{k0, k1, k2, k6, LEVELS-PER-6DB, k127, k500, k6000, k16000, k32767, k32768, FS, k1p2, k1p5, kM128, kM127p5, PI}
 use Rattle.float.specs.Ops.{_⊖_, _⊗_, _⊘_}
 use Rattle.float.specs.Floats.{clampOf}
 use Rattle.frame.specs.Frame.{wordF, signedF, bytesAt}
@@ -34,7 +34,7 @@ soundOf f h w =
     record {
       hat = record { ph = b .ph; det = h .det; env = h .env; mode = h .mode; hp = s .svf };
       w = w;
-      y = s .high ⊗ (wordF f 140 ⊘ k32767) ⊗ exp2Of ((h .env .level ⊖ k127) ⊘ k16);
+      y = s .high ⊗ (wordF f 140 ⊘ k32767) ⊗ exp2Of ((h .env .level ⊖ k127) ⊘ LEVELS-PER-6DB);
     }
 
 -- `Hat::sample`: the hit, the envelope's move, and the sound unless the level is at or below -127.5

@@ -7,6 +7,9 @@ use Rattle.bus.proofs.master.Tie as tie
 returned-requires : tie.Need-returned-requires
 returned-requires c κs = search needs
 
+add-returned : tie.Need-add-returned
+add-returned c = search needs
+
 returned-requires-2 : tie.Need-returned-requires-2
 returned-requires-2 c κs = search needs
 
@@ -15,6 +18,9 @@ distort-requires c κs = search needs
 
 returned-requires-3 : tie.Need-returned-requires-3
 returned-requires-3 c κs = search needs
+
+add-returned-2 : tie.Need-add-returned-2
+add-returned-2 c = search needs
 
 returned-requires-4 : tie.Need-returned-requires-4
 returned-requires-4 c κs = search needs
@@ -28,8 +34,10 @@ master-spec =
     tie.close
     (tie.spec
     returned-requires
+    add-returned
     returned-requires-2
     distort-requires
     returned-requires-3
+    add-returned-2
     returned-requires-4
     returns)

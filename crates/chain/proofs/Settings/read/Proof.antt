@@ -1,8 +1,8 @@
--- `chain::read` meets its contract: each field by its call. Assumes nothing.
-use Rattle.chain.specs.Chain.{readOf}
+-- `chain::Settings::read` meets its contract: each field by its call. Assumes nothing.
+use Rattle.chain.specs.Chain.{settingsOf}
 use borrow.Author.Needs.{needs}
-use Rattle.chain.proofs.read.Statement.{statement}
-use Rattle.chain.proofs.read.Tie as tie
+use Rattle.chain.proofs.Settings.read.Statement.{statement}
+use Rattle.chain.proofs.Settings.read.Tie as tie
 
 mul-word-f32 : tie.Need-mul-word-f32
 mul-word-f32 c = search needs
@@ -65,7 +65,7 @@ bytes-requires-2 : tie.Need-bytes-requires-2
 bytes-requires-2 c κs = search needs
 
 returns : tie.Need-returns
-unfolding readOf
+unfolding settingsOf
 returns c = rw (← c .before .before .before .before .before .before .before .word-f32 .ensures, ← c .before .before .before .before .before .before .signed-f32 .ensures, ← c .before .before .before .before .before .signed-f322 .ensures, ← c .before .before .before .before .word-f322 .ensures, ← c .before .before .before .flt-code .ensures, ← c .before .before .from-code .ensures, ← c .before .bytes .ensures, ← c .bytes2 .ensures)
 
 pub read-spec : {M : Type 1} → statement M

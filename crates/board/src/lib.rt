@@ -1,10 +1,10 @@
 // The voice board, and one step with its refusals.
 use chain::Chain;
 use comp::Comp;
-use stereo::Mix;
 use cym::Cym;
 use dual::DualOsc;
 use hat::Hat;
+use stereo::Mix;
 use tom::Tom;
 use wobble::Wobble;
 ghost use mathlib.Core.Path.{_≡_};

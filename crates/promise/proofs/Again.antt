@@ -105,7 +105,7 @@ module _ (r : List ℕ) where
 
     -- and a step that carries it makes it seen
     ready-next : (n : Analog) → Good b → Stepped b f n → (w : Which) → recordAt f w ≡ r → Ready w n
-    unfolding Ready takenOf Dual.sampleOf Dual.settingOf Dual.recordAt Cym.recordAt Chain.processOf Chain.settingsOf segOf
+    unfolding Ready takenOf Dual.sampleOf Dual.settingsOf Dual.recordAt Cym.recordAt Chain.processOf Chain.settingsOf segOf
     ready-next n g s (pitch d h) e = ap (λ (x : DualOsc). x .«last_p») (s .duals d h .is) ∙ e
     ready-next n g s (amp d h) e = ap (λ (x : DualOsc). x .«last_a») (s .duals d h .is) ∙ e
     ready-next n g s (amp2 d h) e = ap (λ (x : DualOsc). x .«last_m») (s .duals d h .is) ∙ e

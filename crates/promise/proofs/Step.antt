@@ -85,7 +85,7 @@ module _ (b : Analog) (f : List ℕ) (dac : List ℤ) (fx : List ℕ) (x : Input
 
 -- ---- so each level goes where its move says
 pub level-after : (b : Analog) (f : List ℕ) (n : Analog) → Good b → Stepped b f n → (w : Which) → levelAt n w ≡ settle (moveAt b f w) (levelAt b w)
-unfolding Dual.sampleOf Dual.settingOf Dual.recordAt Chain.processOf Chain.settingsOf Cym.recordAt dualOf hitOf segOf takenOf
+unfolding Dual.sampleOf Dual.settingsOf Dual.recordAt Chain.processOf Chain.settingsOf Cym.recordAt dualOf hitOf segOf takenOf
 level-after b f n g s (pitch d h) = ap (λ (e : DualOsc). e .pitch .level) (s .duals d h .is)
 level-after b f n g s (amp d h) = ap (λ (e : DualOsc). e .amp .level) (s .duals d h .is)
 level-after b f n g s (amp2 d h) = ap (λ (e : DualOsc). e .amp2 .level) (s .duals d h .is)

@@ -18,13 +18,15 @@ use Rattle.wobble.specs.declared.Drifted.{Drifted}
 abbrev pub DETUNE-CENTS : Float
 DETUNE-CENTS = k3
 
--- the drift: its size in cents, its time in seconds, and how many ticks make one of its steps
+-- how far an oscillator drifts, in cents
 abbrev pub DRIFT-CENTS : Float
 DRIFT-CENTS = k1p5
 
+-- within how many seconds
 abbrev pub DRIFT-TAU : Float
 DRIFT-TAU = k0p5
 
+-- in how many ticks the drift moves once
 abbrev pub DRIFT-EVERY : ℕ
 DRIFT-EVERY = 32
 

@@ -7,11 +7,11 @@ ghost use Rattle.wobble.specs.Wobble.{xorshiftOf, newOf, uniOf, detuneOf
 pub const DEFAULT_SEED: u32 = 0x2545F491;
 // How far a hit is detuned at most.
 pub const DETUNE_CENTS: f32 = 3.0;
-// How far an oscillator drifts, within how many seconds, and in samples how often.
+// How far an oscillator drifts.
 const DRIFT_CENTS: f32 = 1.5;
-
+// Within how many seconds.
 const DRIFT_TAU: f32 = 0.5;
-
+// In how many samples the drift moves once.
 const DRIFT_EVERY: u32 = 32;
 
 #[repr(C)]
@@ -49,7 +49,7 @@ impl Wobble {
         }
     }
 
-    // Uniform in -1..1.
+    // Uniform in -1..1; `u32::MAX as f32` is 2^32.
     pub fn uni(self) -> Drawn
         ensures { λ r. ⌜ r ≡ uniOf self ⌝ }
     {

@@ -1,8 +1,10 @@
 //! Compares the port's sources with the published Rust (built by tools/oracle), sample by sample and state by state,
-//! bit for bit; two values that are not numbers count as equal. Each source runs alone, then all eight in the board's
-//! order from one random sequence.
+//! bit for bit; two values that are not numbers count as equal. First the calls that the sources stand on, each by
+//! itself: `Record::parse`, `Wave::from_bits`, `Wave::at`, `Pair::sample`. Then each source alone, then all eight in the
+//! board's order from one random sequence.
 //!
-//!     --steps N   samples of each source alone, and of the eight together (default 2000000)
+//!     --steps N   phases of each waveform, samples of the pair, of each source alone, and of the eight together
+//!                 (default 2000000)
 //!     --seed S    seed of the cases (default 1)
 
 #[path = "../target/oracle/mod.rs"]
@@ -19,6 +21,8 @@ mod fields;
 mod frames;
 #[path = "sources/port.rs"]
 mod port;
+#[path = "sources/references.rs"]
+mod references;
 #[path = "sources/rng.rs"]
 mod rng;
 #[path = "sources/state.rs"]
@@ -182,6 +186,7 @@ fn options() -> (u64, u64) {
 
 fn main() {
     let (steps, seed) = options();
+    let references = references::compare(seed, steps);
     let mut rng = Rng::new(seed);
     let mut report = Report { compared: 0, differ: 0, of: [0; 8], cover: Coverage::new() };
     let w = Wobble { s: 1, depth: 1.0 };
@@ -208,5 +213,5 @@ fn main() {
         println!("differing: {}", open.join(", "));
     }
     println!("compared {} samples: {} differences", report.compared, report.differ);
-    std::process::exit((report.differ != 0) as i32);
+    std::process::exit((references + report.differ != 0) as i32);
 }

@@ -29,7 +29,7 @@ impl Wild<'_> {
         }
     }
 
-    fn phase(&mut self) -> f32 {
+    pub fn phase(&mut self) -> f32 {
         let usual = self.rng.unit();
         self.float(usual, &[0.0, 1.0, 0.99999994, 0.5, 0.49999997, 0.35, 0.34999999, 0.75, 0.25, -1e-9, -2.9802322e-8, -2.980233e-8, -0.3, 1.5, 1e6])
     }

@@ -6,6 +6,7 @@ use mathlib.Core.Bool.{Bool, true, false, cond}
 use mathlib.Core.List.{List}
 use lib.ListN.{getD, length}
 use Rattle.float.specs.Consts.{k0}
+use Rattle.frame.specs.Offsets.{CYM-ENV, CYM-BANK}
 use Rattle.frame.proofs.Sizes.{Bytes, bytes-in}
 use Rattle.lists.specs.Turns.{eachOf}
 use Rattle.lists.proofs.Sweep.{each-length, each-at}
@@ -32,11 +33,11 @@ unfolding envAt
 env-in f B mode r e l = hit-level (getD mode r 0) (recordAt f r) e (record-bytes r) l
   where
     record-bytes : (r : ℕ) → Bytes (recordAt f r)
-    record-bytes r = unfold recordAt in bytes-in f B (496 + 8 * r)
+    record-bytes r = unfold recordAt in bytes-in f B (CYM-ENV + 8 * r)
 
 sound-in : (f : List ℕ) → Bytes f → (c : Cym) (w : Wobble) → CymIn c → CymIn (soundOf f c w .cym)
 unfolding soundOf
-sound-in f B c w k = record { ph = bank-in f B 640 (c .ph) (c .det) true (k .ph) (k .det); det = k .det; long = k .long; env = k .env }
+sound-in f B c w k = record { ph = bank-in f B CYM-BANK (c .ph) (c .det) true (k .ph) (k .det); det = k .det; long = k .long; env = k .env }
 
 same-w : (f : List ℕ) (c : Cym) (w : Wobble) → WobbleIn w → WobbleIn (soundOf f c w .w)
 unfolding soundOf

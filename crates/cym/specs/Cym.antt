@@ -10,7 +10,7 @@ use Rattle.float.specs.Consts.{k0, k1, k2, k127, k1200, k16000, k32767, k32768,
 use Rattle.float.specs.Ops.{_⊕_, _⊗_, _⊘_}
 use Rattle.float.specs.Floats.{minOf, maxOf}
 use Rattle.frame.specs.Frame.{wordF, signedF, bytesAt}
-use Rattle.frame.specs.Offsets.{cymPath}
+use Rattle.frame.specs.Offsets.{CYM-COLOUR, CYM-VCA, CYM-ENV, CYM-BANK, cymPath}
 use Rattle.lists.specs.Turns.{turnsOf, eachOf}
 use Rattle.envelope.specs.declared.Env.{Env}
 use Rattle.envelope.specs.Record.{modeOf}
@@ -44,7 +44,7 @@ cymNew = record {
 
 -- "cymbal (eight from 496)"
 unfoldable pub recordAt : List ℕ → ℕ → List ℕ
-recordAt f r = bytesAt f (496 + 8 * r)
+recordAt f r = bytesAt f (CYM-ENV + 8 * r)
 
 -- the envelope of record r, whose mode was `getD mode r 0`
 unfoldable pub envAt : List ℕ → List ℕ → ℕ → Env → Env
@@ -66,9 +66,9 @@ anyHit now was = turnsOf 8 (λ r any. any || hitAt now was r) false
 unfoldable pub quietOf : List Env → Bool
 quietOf env = turnsOf 8 (λ r all. all && le (getD env r noEnv .level) kM127p5) true
 
--- a path's coefficient by its centre; `fixed`: the colour does not move it
-unfoldable pub gOf : Float → Bool → Float → Float
-gOf hz fixed colour = k2 ⊗ sinOf (PI ⊗ minOf (cond fixed hz (hz ⊗ exp2Of (k0p75 ⊗ colour))) k16000 ⊘ FS)
+-- a path's coefficient by its centre and what the colour multiplies it by; `fixed`: the colour does not move it
+unfoldable pub coefficientOf : Float → Bool → Float → Float
+coefficientOf hz fixed ratio = k2 ⊗ sinOf (PI ⊗ minOf (cond fixed hz (hz ⊗ ratio)) k16000 ⊘ FS)
 
 -- path p: skipped at its floor; record 7 is the cowbell's band-pass with at most two oscillators running
 unfoldable pub pathOf : Metal → List Env → ℕ → Paths → Paths
@@ -76,7 +76,7 @@ pathOf m env p s =
     let c = cymPath p in
     let lv = getD env (c .rec) noEnv .level in
     let body = eqb (c .rec) 7 && m .cowbell in
-    let q = svfOf (getD (s .svf) p noSvf) (m .x) (gOf (cond body k1200 (c .hz)) (eqb (c .rec) 6 || body) (m .colour)) k0p8 in
+    let q = svfOf (getD (s .svf) p noSvf) (m .x) (coefficientOf (cond body k1200 (c .hz)) (eqb (c .rec) 6 || body) (m .ratio)) k0p8 in
     let y = cond (c .high && not body) (q .high) (q .svf .band) in
     cond (le lv kM127p5) s (record { svf = set (s .svf) p (q .svf); out = s .out ⊕ y ⊗ maxOf (lv ⊘ k127) k0 })
 
@@ -87,10 +87,11 @@ pathsOf svf m env = turnsOf 5 (pathOf m env) (record { svf = svf; out = k0 })
 -- the bank through the paths, times the VCA
 unfoldable pub soundOf : List ℕ → Cym → Wobble → CymOut
 soundOf f c w =
-    let b = bankOf f 640 (c .ph) (c .det) true in
-    let m : Metal = record { x = b .metal ⊘ ofInt binary32 (pos (max (b .running) 1)); cowbell = leb (b .running) 2; colour = signedF f 142 ⊘ k32768 } in
+    let b = bankOf f CYM-BANK (c .ph) (c .det) true in
+    let colour = signedF f CYM-COLOUR ⊘ k32768 in
+    let m : Metal = record { x = b .metal ⊘ ofInt binary32 (pos (max (b .running) 1)); cowbell = leb (b .running) 2; ratio = exp2Of (k0p75 ⊗ colour) } in
     let s = pathsOf (c .svf) m (c .env) in
-    record { cym = record { ph = b .ph; det = c .det; env = c .env; mode = c .mode; svf = s .svf }; w = w; y = s .out ⊗ (wordF f 158 ⊘ k32767) }
+    record { cym = record { ph = b .ph; det = c .det; env = c .env; mode = c .mode; svf = s .svf }; w = w; y = s .out ⊗ (wordF f CYM-VCA ⊘ k32767) }
 
 -- `Cym::sample`: the eight moves, the hit, and the sound unless every level is at its floor
 unfoldable pub sampleOf : List ℕ → Cym → Wobble → CymOut

@@ -6,8 +6,9 @@ ghost use mathlib.Core.Path.{_≡_};
 ghost use mathlib.Core.Bool.{Bool};
 ghost use Prim.Native.Nat.{_≤_, _<_, max};
 ghost use lib.ListN.{length};
+ghost use Rattle.frame.specs.Offsets.{FRAME-BYTES};
 ghost use Rattle.lists.specs.Turns.{eachOf};
-ghost use Rattle.cym.specs.Cym.{cymNew, recordAt, envAt, modesAt, hitAt, anyHit, noEnv, quietOf, gOf, pathOf, pathsOf, soundOf, sampleOf};
+ghost use Rattle.cym.specs.Cym.{cymNew, recordAt, envAt, modesAt, hitAt, anyHit, noEnv, quietOf, coefficientOf, pathOf, pathsOf, soundOf, sampleOf};
 
 #[repr(C)]
 pub struct Cym {
@@ -28,21 +29,21 @@ pub struct CymOut {
 // ---- the eight envelopes
 
 fn record(f: &[u8], r: usize) -> [u8; 8]
-    requires { ⌜ (664 ≤ length (now f)) × (r < 8) ⌝ }
+    requires { ⌜ (FRAME-BYTES ≤ length (now f)) × (r < 8) ⌝ }
     ensures { λ x. ⌜ x ≡ recordAt (now (f .entry)) r ⌝ }
 {
-    frame::bytes(f, 496 + 8 * r)
+    frame::bytes(f, frame::CYM_ENV + 8 * r)
 }
 
 fn env_at(f: &[u8], mode: [u8; 8], r: usize, e: Env) -> Env
-    requires { ⌜ (664 ≤ length (now f)) × (r < 8) ⌝ }
+    requires { ⌜ (FRAME-BYTES ≤ length (now f)) × (r < 8) ⌝ }
     ensures { λ x. ⌜ x ≡ envAt (now (f .entry)) mode r e ⌝ }
 {
     e.hit(mode[r], record(f, r))
 }
 
 fn envs(f: &[u8], env: [Env; 8], mode: [u8; 8]) -> [Env; 8]
-    requires { ⌜ 664 ≤ length (now f) ⌝ }
+    requires { ⌜ FRAME-BYTES ≤ length (now f) ⌝ }
     ensures { λ x. ⌜ x ≡ eachOf 8 (envAt (now (f .entry)) mode) noEnv env ⌝ }
 {
     let mut a = env;
@@ -57,7 +58,7 @@ fn envs(f: &[u8], env: [Env; 8], mode: [u8; 8]) -> [Env; 8]
 }
 
 fn modes(f: &[u8]) -> [u8; 8]
-    requires { ⌜ 664 ≤ length (now f) ⌝ }
+    requires { ⌜ FRAME-BYTES ≤ length (now f) ⌝ }
     ensures { λ x. ⌜ x ≡ modesAt (now (f .entry)) ⌝ }
 {
     [
@@ -106,19 +107,19 @@ pub struct Paths {
     pub out: f32,
 }
 
-// What the paths share: the bank's sum, whether it is the cowbell's, the colour.
+// What the paths share: the bank's sum, whether it is the cowbell's, and what the colour multiplies a centre by.
 pub struct Metal {
     pub x: f32,
     pub cowbell: bool,
-    pub colour: f32,
+    pub ratio: f32,
 }
 
 // A path's coefficient: the colour moves its centre, but not the cowbell's.
-fn coefficient(hz: f32, fixed: bool, colour: f32) -> f32
-    ensures { λ x. ⌜ x ≡ gOf hz fixed colour ⌝ }
+fn coefficient(hz: f32, fixed: bool, ratio: f32) -> f32
+    ensures { λ x. ⌜ x ≡ coefficientOf hz fixed ratio ⌝ }
 {
-    let fc = float::choose(fixed, hz, hz * power::exp2(0.75 * colour));
-    2.0 * sine::sin(3.1415927 * float::min(fc, 16000.0) / 48000.0)
+    let fc = float::choose(fixed, hz, hz * ratio);
+    2.0 * sine::sin(float::PI * float::min(fc, 16000.0) / float::FS)
 }
 
 fn path(s: Paths, p: usize, m: Metal, env: [Env; 8]) -> Paths
@@ -135,7 +136,7 @@ fn path(s: Paths, p: usize, m: Metal, env: [Env; 8]) -> Paths
     // Record 7, the body: the cowbell's band-pass with two oscillators running, the cymbal's high-pass with six.
     let body = (r == 7) & m.cowbell;
     let hz = float::choose(body, 1200.0, c.hz);
-    let g = coefficient(hz, (r == 6) | body, m.colour);
+    let g = coefficient(hz, (r == 6) | body, m.ratio);
     let mut next = s;
     let o = next.svf[p];
     let q = o.tick(m.x, g, 0.8);
@@ -184,7 +185,7 @@ impl Cym {
 
     // The bank through the paths, of a cymbal that sounds.
     fn sound(self, f: &[u8], w: Wobble) -> CymOut
-        requires { ⌜ 664 ≤ length (now f) ⌝ }
+        requires { ⌜ FRAME-BYTES ≤ length (now f) ⌝ }
         ensures { λ x. ⌜ x ≡ soundOf (now (f .entry)) self w ⌝ }
     {
         let ph = self.ph;
@@ -192,11 +193,12 @@ impl Cym {
         let env = self.env;
         let mode = self.mode;
         let svf = self.svf;
-        let b = metal::run(f, 640, ph, det, true);
+        let b = metal::run(f, frame::CYM_BANK, ph, det, true);
+        let colour = frame::signed_f32(f, frame::CYM_COLOUR) / 32768.0;
         let m = Metal {
             x: b.metal / float::from_u32(at_least_one(b.running)),
             cowbell: b.running <= 2,
-            colour: frame::signed_f32(f, 142) / 32768.0,
+            ratio: power::exp2(0.75 * colour),
         };
         let s = all_paths(svf, m, env);
         let next = b.ph;
@@ -210,12 +212,12 @@ impl Cym {
                 svf: after,
             },
             w,
-            y: s.out * (frame::word_f32(f, 158) / 32767.0),
+            y: s.out * (frame::word_f32(f, frame::CYM_VCA) / 32767.0),
         }
     }
 
     pub fn sample(self, f: &[u8], w: Wobble) -> CymOut
-        requires { ⌜ 664 ≤ length (now f) ⌝ }
+        requires { ⌜ FRAME-BYTES ≤ length (now f) ⌝ }
         ensures { λ x. ⌜ x ≡ sampleOf (now (f .entry)) self w ⌝ }
     {
         let was = self.env;

@@ -10,11 +10,11 @@ use lib.Ieee.{Float, nan, binary32, neg, le, lt, eq, fits, ofBits, ofInt, round}
 use Rattle.line.proofs.Range.{In, in-of}
 use Rattle.line.proofs.Rem.{nought-in}
 use Rattle.line.proofs.Whole.{ofInt-in}
-use Rattle.float.specs.Consts.{k0, k1, k3, k127, FS, k65535, k0p45, kM128, kTunePerLevel, kHzPerTune}
+use Rattle.float.specs.Consts.{k0, k1, k127, FS, k65535, k0p45, kM128}
 use Rattle.float.specs.Ops.{_⊗_, _⊘_}
 use Rattle.float.specs.Floats.{minOf, clampOf}
 use Rattle.float.proofs.Eval.{leaf, con, plus, times, over, capped, floored, clamped, range, proves}
-use Rattle.frame.specs.Offsets.{dualSpec}
+use Rattle.frame.specs.Offsets.{PITCH-REC, AMP-REC, AMP2-REC, dualSpec}
 use Rattle.frame.proofs.Sizes.{Bytes, word-in, bytes-in}
 use Rattle.envelope.specs.Levels.{Level}
 use Rattle.envelope.proofs.Settle.{dual-level}
@@ -22,13 +22,14 @@ use Rattle.vco.specs.Vco.{pairOf}
 use Rattle.vco.proofs.Kept.{osc-in, advanced-in, advanced-fm-in}
 use Rattle.wobble.specs.declared.Wobble.{Wobble}
 use Rattle.wobble.specs.declared.Drift.{Drift}
-use Rattle.wobble.specs.Wobble.{detuneOf, driftOf}
+use Rattle.wobble.specs.Wobble.{DETUNE-CENTS, detuneOf, driftOf}
 use Rattle.wobble.proofs.Kept.{Unit, Ratio, WobbleIn, DriftIn, detune-in, drift-in}
+use Rattle.dual.specs.Consts.{HZ-PER-TUNE, TUNE-PER-PITCH-LEVEL}
 use Rattle.dual.specs.declared.DualOsc.{DualOsc}
-use Rattle.dual.specs.declared.Setting.{Setting}
+use Rattle.dual.specs.declared.Settings.{Settings}
 use Rattle.dual.specs.declared.Trigged.{Trigged}
 use Rattle.dual.specs.declared.Sound.{Sound}
-use Rattle.dual.specs.Dual.{cvAt, recordAt, settingOf, trigOf, hzOf, pairedOf, plainOf, soundOf, sampleOf}
+use Rattle.dual.specs.Dual.{cvAt, recordAt, settingsOf, trigOf, hzOf, pairedOf, plainOf, soundOf, sampleOf}
 
 abbrev none : Drift
 none = record { cents = nan; ratio = nan; n = 0 }
@@ -64,7 +65,7 @@ word-range w h = unfold ofBits ofInt round fits le lt eq in ofInt-in binary32 (p
 pub hz-in : (w : ℕ) (l t r : Float) → w ≤ 65535 → Level l → Ratio t → Ratio r → In binary32 k0 k65535 (hzOf w l t r)
 unfolding hzOf ofBits proves
 hz-in w l t r h a b c =
-    range k0 k65535 (times (times (times (plus (leaf (word-range w h)) (times (floored (leaf (level-range l a)) k0) (con kTunePerLevel))) (con kHzPerTune)) (leaf b)) (leaf c)) tt
+    range k0 k65535 (times (times (times (plus (leaf (word-range w h)) (times (floored (leaf (level-range l a)) k0) (con TUNE-PER-PITCH-LEVEL))) (con HZ-PER-TUNE)) (leaf b)) (leaf c)) tt
 
 depth-in : (w : ℕ) (l : Float) → w ≤ 65535 → Level l → In binary32 k0 k65535 (ofInt binary32 (pos w) ⊗ clampOf (l ⊘ k127) k0 k1)
 unfolding ofBits proves
@@ -83,7 +84,7 @@ choose-in : (b : Bool) (x y : Float) → Unit x → Unit y → Unit (cond b x y)
 choose-in true x y h k = h
 choose-in false x y h k = k
 
-module _ (i : Setting) (p q f1 f2 a : Float) (P : Unit p) (Q : Unit q) (F1 : In binary32 k0 k65535 f1) (F2 : In binary32 k0 k65535 f2) where
+module _ (i : Settings) (p q f1 f2 a : Float) (P : Unit p) (Q : Unit q) (F1 : In binary32 k0 k65535 f1) (F2 : In binary32 k0 k65535 f2) where
   plain-in : PhasesIn (plainOf i p q f1 f2)
   unfolding plainOf
   plain-in = record { ph1 = advanced-in p f1 P F1; ph2 = advanced-in q f2 Q F2 }
@@ -119,23 +120,23 @@ trig-in : (rise : Bool) (d : DualOsc) (w : Wobble) → DualIn d → WobbleIn w �
 unfolding trigOf
 trig-in true d w h k =
     let a = detune-in w k in
-    let b = detune-in (detuneOf w k3 .w) (a .0) in
+    let b = detune-in (detuneOf w DETUNE-CENTS .w) (a .0) in
     record { ph1 = zero-in; ph2 = zero-in; det1 = a .1; det2 = b .1; w = b .0 }
 trig-in false d w h k = record { ph1 = h .ph1; ph2 = h .ph2; det1 = h .det1; det2 = h .det2; w = k }
 
 pub dual-in : (f : List ℕ) → Bytes f → (n : ℕ) (d : DualOsc) (w : Wobble) → DualIn d → WobbleIn w → DualIn (sampleOf f n d w .dual) × WobbleIn (sampleOf f n d w .w)
-unfolding sampleOf settingOf
+unfolding sampleOf settingsOf
 dual-in f B n d w h k =
-    let i = settingOf f n in
+    let i = settingsOf f n in
     let t = trigOf (i .trig && not (d .trig)) (d .ph1) (d .ph2) (d .det) w in
     let T' = trig-in (i .trig && not (d .trig)) d w h k in
     let D1 = drift-in (getD (d .drift) 0 none) (t .w) (h .drift1) (T' .w) in
     let d1 = driftOf (getD (d .drift) 0 none) (t .w) in
     let D2 = drift-in (getD (d .drift) 1 none) (d1 .w) (h .drift2) (D1 .1) in
     let d2 = driftOf (getD (d .drift) 1 none) (d1 .w) in
-    let pitch = dual-level (d .«last_p») (recordAt f n 0) (d .pitch) (record-bytes f B n 0) (h .pitch) in
-    let amp = dual-level (d .«last_a») (recordAt f n 2) (d .amp) (record-bytes f B n 2) (h .amp) in
-    let amp2 = dual-level (d .«last_m») (recordAt f n 3) (d .amp2) (record-bytes f B n 3) (h .amp2) in
+    let pitch = dual-level (d .«last_p») (recordAt f n PITCH-REC) (d .pitch) (record-bytes f B n PITCH-REC) (h .pitch) in
+    let amp = dual-level (d .«last_a») (recordAt f n AMP-REC) (d .amp) (record-bytes f B n AMP-REC) (h .amp) in
+    let amp2 = dual-level (d .«last_m») (recordAt f n AMP2-REC) (d .amp2) (record-bytes f B n AMP2-REC) (h .amp2) in
     let F1 = hz-in (cvAt f n 0) _ _ (d1 .drift .ratio) (cv-in f B n 0) pitch (T' .det1) (D1 .0 .ratio) in
     let F2 = hz-in (cvAt f n 1) _ _ (d2 .drift .ratio) (cv-in f B n 1) pitch (T' .det2) (D2 .0 .ratio) in
     let s = sound-in i (t .ph1) (t .ph2) _ _ _ (T' .ph1) (T' .ph2) F1 F2 (cv-in f B n 3) amp2 in (

@@ -1,3 +1,4 @@
 -- Laws of `dual`.
+pub mod Constants
 pub mod Inside
 pub mod Kept

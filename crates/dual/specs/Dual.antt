@@ -6,21 +6,22 @@ use lib.ListN.{getD}
 use lib.Dec.{eqb}
 use lib.IntN.{pos}
 use lib.Ieee.{Float, binary32, nan, le, ofInt}
-use Rattle.float.specs.Consts.{k0, k1, k2, k3, LEVELS-PER-6DB, k127, k32767, FS, k0p3, k0p7, kM128, kM127p5, TAU, kHzPerTune, kTunePerLevel}
+use Rattle.float.specs.Consts.{k0, k1, k2, LEVELS-PER-6DB, k127, k32767, FS, k0p3, k0p7, kM128, kM127p5, TAU}
 use Rattle.float.specs.Ops.{_⊕_, _⊖_, _⊗_, _⊘_}
 use Rattle.float.specs.Floats.{maxOf, clampOf}
 use Rattle.frame.specs.Frame.{wordAt, bitAt, bytesAt}
-use Rattle.frame.specs.Offsets.{dualSpec}
+use Rattle.frame.specs.Offsets.{PITCH-REC, AMP-REC, AMP2-REC, dualSpec}
 use Rattle.envelope.specs.Moves.{dualOf}
 use Rattle.power.specs.Power.{exp2Of}
 use Rattle.sine.specs.Sine.{sinOf}
 use Rattle.vco.specs.Vco.{fromBits, advanced, pairOf}
 use Rattle.wobble.specs.declared.Wobble.{Wobble}
 use Rattle.wobble.specs.declared.Drift.{Drift}
-use Rattle.wobble.specs.Wobble.{detuneOf, driftNew, driftOf}
+use Rattle.wobble.specs.Wobble.{DETUNE-CENTS, detuneOf, driftNew, driftOf}
+use Rattle.dual.specs.Consts.{HZ-PER-TUNE, TUNE-PER-PITCH-LEVEL}
 use Rattle.dual.specs.declared.DualOsc.{DualOsc}
 use Rattle.dual.specs.declared.DualOut.{DualOut}
-use Rattle.dual.specs.declared.Setting.{Setting}
+use Rattle.dual.specs.declared.Settings.{Settings}
 use Rattle.dual.specs.declared.Trigged.{Trigged}
 use Rattle.dual.specs.declared.Sound.{Sound}
 
@@ -53,8 +54,8 @@ unfoldable pub recordAt : List ℕ → ℕ → ℕ → List ℕ
 recordAt f d k = bytesAt f (dualSpec d .env + 8 * k)
 
 -- what the frame says to a voice
-unfoldable pub settingOf : List ℕ → ℕ → Setting
-settingOf f d = record {
+unfoldable pub settingsOf : List ℕ → ℕ → Settings
+settingsOf f d = record {
   trig = switchAt f d 0;
   wave1 = switchAt f d 1;
   wave2 = fromBits (switchAt f d 6) (switchAt f d 3) (switchAt f d 2);
@@ -64,21 +65,21 @@ settingOf f d = record {
   tune2 = cvAt f d 1;
   level1 = cvAt f d 2;
   level2 = cvAt f d 3;
-  rp = recordAt f d 0;
-  ra = recordAt f d 2;
-  rm = recordAt f d 3;
+  rp = recordAt f d PITCH-REC;
+  ra = recordAt f d AMP-REC;
+  rm = recordAt f d AMP2-REC;
 }
 
 -- "A dual voice draws two detunes on a trig's rise, before its two drifts tick"
 unfoldable pub trigOf : Bool → Float → Float → List Float → Wobble → Trigged
 trigOf rise ph1 ph2 det w =
-    let a = detuneOf w k3 in
-    let b = detuneOf (a .w) k3 in
+    let a = detuneOf w DETUNE-CENTS in
+    let b = detuneOf (a .w) DETUNE-CENTS in
     cond rise (record { ph1 = k0; ph2 = k0; det = a .x ∷ b .x ∷ []; w = b .w }) (record { ph1 = ph1; ph2 = ph2; det = det; w = w })
 
 -- an oscillator's frequency
 unfoldable pub hzOf : ℕ → Float → Float → Float → Float
-hzOf tune pitch det ratio = (ofInt binary32 (pos tune) ⊕ maxOf pitch k0 ⊗ kTunePerLevel) ⊗ kHzPerTune ⊗ det ⊗ ratio
+hzOf tune pitch det ratio = (ofInt binary32 (pos tune) ⊕ maxOf pitch k0 ⊗ TUNE-PER-PITCH-LEVEL) ⊗ HZ-PER-TUNE ⊗ det ⊗ ratio
 
 -- "The dual gain is 0 at or below -127.5", else 2 ^ ((level - 127) / 16)
 unfoldable pub gainOf : Float → Float
@@ -89,7 +90,7 @@ unfoldable pub wordLevel : ℕ → Float
 wordLevel w = ofInt binary32 (pos w) ⊘ k32767
 
 -- with FM or ring modulation: the shared core
-unfoldable pub pairedOf : Setting → Float → Float → Float → Float → Float → Sound
+unfoldable pub pairedOf : Settings → Float → Float → Float → Float → Float → Sound
 pairedOf i ph1 ph2 f1 f2 amp2 =
     let o = pairOf (record { ph1 = ph1; ph2 = ph2 }) (record {
       hz1 = f1;
@@ -107,7 +108,7 @@ pairedOf i ph1 ph2 f1 f2 amp2 =
     record { ph1 = o .pair .ph1; ph2 = o .pair .ph2; y = o .y }
 
 -- "without them oscillator 1 is a sine, with saw added where its wave switch is set"
-unfoldable pub plainOf : Setting → Float → Float → Float → Float → Sound
+unfoldable pub plainOf : Settings → Float → Float → Float → Float → Sound
 plainOf i ph1 ph2 f1 f2 =
     let o2 = sinOf (TAU ⊗ ph2) in
     let o = sinOf (TAU ⊗ ph1) in
@@ -115,13 +116,13 @@ plainOf i ph1 ph2 f1 f2 =
     record { ph1 = advanced ph1 f1 FS; ph2 = advanced ph2 f2 FS; y = o1 ⊗ wordLevel (i .level1) ⊕ o2 ⊗ wordLevel (i .level2) }
 
 -- "The core of 001 runs only with FM or ring on"
-unfoldable pub soundOf : Setting → Float → Float → Float → Float → Float → Sound
+unfoldable pub soundOf : Settings → Float → Float → Float → Float → Float → Sound
 soundOf i ph1 ph2 f1 f2 amp2 = cond (i .fm || i .ring) (pairedOf i ph1 ph2 f1 f2 amp2) (plainOf i ph1 ph2 f1 f2)
 
 -- `DualOsc::sample`
 unfoldable pub sampleOf : List ℕ → ℕ → DualOsc → Wobble → DualOut
 sampleOf f d e w =
-    let i = settingOf f d in
+    let i = settingsOf f d in
     let t = trigOf (i .trig && not (e .trig)) (e .ph1) (e .ph2) (e .det) w in
     let none : Drift = record { cents = nan; ratio = nan; n = 0 } in
     let d1 = driftOf (getD (e .drift) 0 none) (t .w) in

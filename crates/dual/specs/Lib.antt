@@ -1,2 +1,3 @@
 -- The definitions that the contracts of `dual` cite.
+pub mod Consts
 pub mod Dual

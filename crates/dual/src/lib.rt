@@ -3,13 +3,20 @@ use envelope::Env;
 use vco::Osc2Set;
 use vco::Pair;
 use vco::Wave;
+use wobble::DETUNE_CENTS;
 use wobble::Drift;
 use wobble::Wobble;
 ghost use mathlib.Core.Path.{_≡_};
 ghost use mathlib.Core.Bool.{Bool};
 ghost use Prim.Native.Nat.{_≤_, _<_};
 ghost use lib.ListN.{length};
-ghost use Rattle.dual.specs.Dual.{dualNew, switchAt, cvAt, recordAt, settingOf, trigOf, hzOf, gainOf, wordLevel, pairedOf, plainOf, soundOf, sampleOf};
+ghost use Rattle.frame.specs.Offsets.{FRAME-BYTES};
+ghost use Rattle.dual.specs.Dual.{dualNew, switchAt, cvAt, recordAt, settingsOf, trigOf, hzOf, gainOf, wordLevel, pairedOf, plainOf, soundOf, sampleOf};
+
+// Hz per unit of a tune CV: 678 is 55 Hz.
+const HZ_PER_TUNE: f32 = 55.0 / 678.0;
+// Tune-CV units per pitch-envelope level: 15 levels are three octaves of 678.
+const TUNE_PER_PITCH_LEVEL: f32 = 678.0 * 7.0 / 15.0;
 
 #[repr(C)]
 pub struct DualOsc {
@@ -37,7 +44,7 @@ pub struct DualOut {
 }
 
 // What the frame says to a voice.
-pub struct Setting {
+pub struct Settings {
     pub trig: bool,
     // Oscillator 1's wave switch.
     pub wave1: bool,
@@ -56,7 +63,7 @@ pub struct Setting {
 
 // Voice d's switch k, its CV word k and its record k.
 fn switch(f: &[u8], d: usize, k: usize) -> bool
-    requires { ⌜ (664 ≤ length (now f)) × (k < 7) ⌝ }
+    requires { ⌜ (FRAME-BYTES ≤ length (now f)) × (k < 7) ⌝ }
     ensures { λ r. ⌜ r ≡ switchAt (now (f .entry)) d k ⌝ }
 {
     let sw = frame::dual_spec(d).sw;
@@ -64,36 +71,38 @@ fn switch(f: &[u8], d: usize, k: usize) -> bool
 }
 
 fn cv(f: &[u8], d: usize, k: usize) -> u16
-    requires { ⌜ (664 ≤ length (now f)) × (k < 4) ⌝ }
+    requires { ⌜ (FRAME-BYTES ≤ length (now f)) × (k < 4) ⌝ }
     ensures { λ r. ⌜ r ≡ cvAt (now (f .entry)) d k ⌝ }
 {
     frame::word(f, frame::dual_spec(d).cv + 2 * k)
 }
 
 fn record(f: &[u8], d: usize, k: usize) -> [u8; 8]
-    requires { ⌜ (664 ≤ length (now f)) × (k < 4) ⌝ }
+    requires { ⌜ (FRAME-BYTES ≤ length (now f)) × (k < 4) ⌝ }
     ensures { λ r. ⌜ r ≡ recordAt (now (f .entry)) d k ⌝ }
 {
     frame::bytes(f, frame::dual_spec(d).env + 8 * k)
 }
 
-fn read(f: &[u8], d: usize) -> Setting
-    requires { ⌜ 664 ≤ length (now f) ⌝ }
-    ensures { λ r. ⌜ r ≡ settingOf (now (f .entry)) d ⌝ }
-{
-    Setting {
-        trig: switch(f, d, 0),
-        wave1: switch(f, d, 1),
-        wave2: Wave::from_bits(switch(f, d, 6), switch(f, d, 3), switch(f, d, 2)),
-        fm: switch(f, d, 4),
-        ring: !switch(f, d, 5),
-        tune1: cv(f, d, 0),
-        tune2: cv(f, d, 1),
-        level1: cv(f, d, 2),
-        level2: cv(f, d, 3),
-        rp: record(f, d, 0),
-        ra: record(f, d, 2),
-        rm: record(f, d, 3),
+impl Settings {
+    fn read(f: &[u8], d: usize) -> Settings
+        requires { ⌜ FRAME-BYTES ≤ length (now f) ⌝ }
+        ensures { λ r. ⌜ r ≡ settingsOf (now (f .entry)) d ⌝ }
+    {
+        Settings {
+            trig: switch(f, d, 0),
+            wave1: switch(f, d, 1),
+            wave2: Wave::from_bits(switch(f, d, 6), switch(f, d, 3), switch(f, d, 2)),
+            fm: switch(f, d, 4),
+            ring: !switch(f, d, 5),
+            tune1: cv(f, d, 0),
+            tune2: cv(f, d, 1),
+            level1: cv(f, d, 2),
+            level2: cv(f, d, 3),
+            rp: record(f, d, frame::PITCH_REC),
+            ra: record(f, d, frame::AMP_REC),
+            rm: record(f, d, frame::AMP2_REC),
+        }
     }
 }
 
@@ -110,8 +119,8 @@ fn on_trig(rise: bool, ph1: f32, ph2: f32, det: [f32; 2], w: Wobble) -> Trigged
     ensures { λ r. ⌜ r ≡ trigOf rise ph1 ph2 det w ⌝ }
 {
     if rise {
-        let a = w.detune(3.0);
-        let b = a.w.detune(3.0);
+        let a = w.detune(DETUNE_CENTS);
+        let b = a.w.detune(DETUNE_CENTS);
         let next = b.w;
         return Trigged {
             ph1: 0.0,
@@ -127,8 +136,8 @@ fn on_trig(rise: bool, ph1: f32, ph2: f32, det: [f32; 2], w: Wobble) -> Trigged
 fn hz(tune: u16, pitch: f32, det: f32, ratio: f32) -> f32
     ensures { λ r. ⌜ r ≡ hzOf tune pitch det ratio ⌝ }
 {
-    let sweep = float::max(pitch, 0.0) * 316.4;
-    (tune as f32 + sweep) * 0.081120946 * det * ratio
+    let sweep = float::max(pitch, 0.0) * TUNE_PER_PITCH_LEVEL;
+    (tune as f32 + sweep) * HZ_PER_TUNE * det * ratio
 }
 
 // 127 is full scale, -128 the floor (silent); logarithmic between.
@@ -138,7 +147,7 @@ fn gain(level: f32) -> f32
     if level <= -127.5 {
         return 0.0;
     }
-    power::exp2((level - 127.0) / 16.0)
+    power::exp2((level - 127.0) / float::LEVELS_PER_6DB)
 }
 
 // `word as f32 / 32767.0`.
@@ -156,7 +165,7 @@ pub struct Sound {
 }
 
 // With FM or ring modulation: the shared core.
-fn paired(i: Setting, ph1: f32, ph2: f32, f1: f32, f2: f32, amp2: f32) -> Sound
+fn paired(i: Settings, ph1: f32, ph2: f32, f1: f32, f2: f32, amp2: f32) -> Sound
     ensures { λ r. ⌜ r ≡ pairedOf i ph1 ph2 f1 f2 amp2 ⌝ }
 {
     let wave2 = i.wave2;
@@ -173,7 +182,7 @@ fn paired(i: Setting, ph1: f32, ph2: f32, f1: f32, f2: f32, amp2: f32) -> Sound
         fm: i.fm,
         ring: i.ring,
     };
-    let o = Pair { ph1, ph2 }.sample(set, 48000.0);
+    let o = Pair { ph1, ph2 }.sample(set, float::FS);
     let p = o.pair;
     Sound {
         ph1: p.ph1,
@@ -183,20 +192,20 @@ fn paired(i: Setting, ph1: f32, ph2: f32, f1: f32, f2: f32, amp2: f32) -> Sound
 }
 
 // Without: oscillator 1 is a sine, with saw added where its wave switch is set.
-fn plain(i: Setting, ph1: f32, ph2: f32, f1: f32, f2: f32) -> Sound
+fn plain(i: Settings, ph1: f32, ph2: f32, f1: f32, f2: f32) -> Sound
     ensures { λ r. ⌜ r ≡ plainOf i ph1 ph2 f1 f2 ⌝ }
 {
-    let o2 = sine::sin(6.2831855 * ph2);
-    let o = sine::sin(6.2831855 * ph1);
+    let o2 = sine::sin(float::TAU * ph2);
+    let o = sine::sin(float::TAU * ph1);
     let o1 = float::choose(i.wave1, 0.7 * o + 0.3 * (2.0 * ph1 - 1.0), o);
     Sound {
-        ph1: vco::advance(ph1, f1, 48000.0),
-        ph2: vco::advance(ph2, f2, 48000.0),
+        ph1: vco::advance(ph1, f1, float::FS),
+        ph2: vco::advance(ph2, f2, float::FS),
         y: o1 * word_level(i.level1) + o2 * word_level(i.level2),
     }
 }
 
-fn played(i: Setting, ph1: f32, ph2: f32, f1: f32, f2: f32, amp2: f32) -> Sound
+fn played(i: Settings, ph1: f32, ph2: f32, f1: f32, f2: f32, amp2: f32) -> Sound
     ensures { λ r. ⌜ r ≡ soundOf i ph1 ph2 f1 f2 amp2 ⌝ }
 {
     if i.fm | i.ring {
@@ -228,10 +237,10 @@ impl DualOsc {
 
     // One sample of voice d: 0 BD, 1 SD, 2 RS.
     pub fn sample(self, f: &[u8], d: usize, w: Wobble) -> DualOut
-        requires { ⌜ 664 ≤ length (now f) ⌝ }
+        requires { ⌜ FRAME-BYTES ≤ length (now f) ⌝ }
         ensures { λ r. ⌜ r ≡ sampleOf (now (f .entry)) d self w ⌝ }
     {
-        let i = read(f, d);
+        let i = Settings::read(f, d);
         let was = self.det;
         let t = on_trig(i.trig & !self.trig, self.ph1, self.ph2, was, w);
         let det = t.det;

@@ -3,7 +3,7 @@ use mathlib.Core.Path.{refl}
 use Rattle.float.specs.Consts.{near, Constants}
 
 pub constants : Constants
-unfolding near lib.Ieee.round lib.Ieee.ofBits lib.Ieee.neg lib.Ieee.mul lib.Ieee.div lib.Ieee.ofInt
+unfolding near lib.Ieee.round lib.Ieee.ofBits lib.Ieee.neg lib.Ieee.ofInt
 constants = record {
   c0 = refl;
   c1 = refl;
@@ -15,7 +15,6 @@ constants = record {
   c10 = refl;
   c12 = refl;
   c15 = refl;
-  c32 = refl;
   c60 = refl;
   c64 = refl;
   c127 = refl;
@@ -63,7 +62,4 @@ constants = record {
   cPI = refl;
   cLEVELS-PER-6DB = refl;
   cUMax = refl;
-  cHzPerTune = refl;
-  cTunePerLevel = refl;
-  cDriftA = refl;
 }

@@ -2,7 +2,7 @@
 use mathlib.Core.Path.{_≡_}
 use mathlib.Core.Bool.{false}
 use Prim.Native.Nat.{ℕ}
-use lib.Ieee.{Float, binary32, neg, mul, div, round, ofInt, ofBits}
+use lib.Ieee.{Float, binary32, neg, round, ofInt, ofBits}
 use lib.IntN.{pos}
 
 -- 0.0
@@ -44,10 +44,6 @@ k12 = ofBits binary32 0x41400000
 -- 15.0
 abbrev pub k15 : Float
 k15 = ofBits binary32 0x41700000
-
--- 32.0
-abbrev pub k32 : Float
-k32 = ofBits binary32 0x42000000
 
 -- 60.0
 abbrev pub k60 : Float
@@ -237,18 +233,6 @@ LEVELS-PER-6DB = ofBits binary32 0x41800000
 abbrev pub kUMax : Float
 kUMax = ofBits binary32 0x4f800000
 
--- HZ_PER_TUNE, 55.0 / 678.0
-abbrev pub kHzPerTune : Float
-kHzPerTune = ofBits binary32 0x3da622bd
-
--- TUNE_PER_PITCH_LEVEL, 678.0 * 7.0 / 15.0
-abbrev pub kTunePerLevel : Float
-kTunePerLevel = ofBits binary32 0x439e3333
-
--- DRIFT_EVERY as f32 / FS / DRIFT_TAU, 32.0 / 48000.0 / 0.5
-abbrev pub kDriftA : Float
-kDriftA = ofBits binary32 0x3aaec33e
-
 -- the f32 nearest to n / d
 unfoldable pub near : ℕ → ℕ → Float
 near n d = round binary32 false n d
@@ -264,7 +248,6 @@ pub record Constants : Type 0 where
   pub c10 : k10 ≡ near 10 1
   pub c12 : k12 ≡ near 12 1
   pub c15 : k15 ≡ near 15 1
-  pub c32 : k32 ≡ near 32 1
   pub c60 : k60 ≡ near 60 1
   pub c64 : k64 ≡ near 64 1
   pub c127 : k127 ≡ near 127 1
@@ -312,6 +295,3 @@ pub record Constants : Type 0 where
   pub cPI : PI ≡ near 314159265358979 100000000000000
   pub cLEVELS-PER-6DB : LEVELS-PER-6DB ≡ near 16 1
   pub cUMax : kUMax ≡ ofInt binary32 (pos 4294967295)
-  pub cHzPerTune : kHzPerTune ≡ div binary32 (near 55 1) (near 678 1)
-  pub cTunePerLevel : kTunePerLevel ≡ div binary32 (mul binary32 (near 678 1) (near 7 1)) (near 15 1)
-  pub cDriftA : kDriftA ≡ div binary32 (div binary32 k32 FS) k0p5

@@ -7,6 +7,7 @@ use lib.Dec.{eqb}
 use lib.Ieee.{le}
 use Rattle.float.specs.Consts.{k0, kM127p5}
 use Rattle.frame.specs.Frame.{bytesAt}
+use Rattle.frame.specs.Offsets.{HAT-ENV, HAT-BANK}
 use Rattle.frame.proofs.Sizes.{Bytes, bytes-in}
 use Rattle.envelope.specs.Record.{modeOf}
 use Rattle.envelope.specs.Moves.{hitOf}
@@ -26,7 +27,7 @@ pub record HatIn (h : Hat) : Type 0 where
 
 sound-in : (f : List ℕ) → Bytes f → (h : Hat) (w : Wobble) → HatIn h → HatIn (soundOf f h w .hat)
 unfolding soundOf
-sound-in f B h w k = record { ph = bank-in f B 616 (h .ph) (h .det) false (k .ph) (k .det); det = k .det; env = k .env }
+sound-in f B h w k = record { ph = bank-in f B HAT-BANK (h .ph) (h .det) false (k .ph) (k .det); det = k .det; env = k .env }
 
 same-w : (f : List ℕ) (h : Hat) (w : Wobble) → WobbleIn w → WobbleIn (soundOf f h w .w)
 unfolding soundOf
@@ -35,10 +36,10 @@ same-w f h w k = k
 pub hat-in : (f : List ℕ) → Bytes f → (h : Hat) (w : Wobble) → HatIn h → WobbleIn w → HatIn (sampleOf f h w .hat) × WobbleIn (sampleOf f h w .w)
 unfolding sampleOf
 hat-in f B h w k m =
-    let r = bytesAt f 488 in
+    let r = bytesAt f HAT-ENV in
     let d = hitDraws (eqb (modeOf r) 15 && not (eqb (h .mode) 15)) (le (h .env .level) kM127p5) (h .ph) (h .det) w in
     let D = hit-in (eqb (modeOf r) 15 && not (eqb (h .mode) 15)) (le (h .env .level) kM127p5) (h .ph) (h .det) w (k .ph) (k .det) m in
-    let e = hit-level (h .mode) r (h .env) (bytes-in f B 488) (k .env) in
+    let e = hit-level (h .mode) r (h .env) (bytes-in f B HAT-ENV) (k .env) in
     let hat : Hat = record { ph = d .ph; det = d .det; env = hitOf (h .mode) r (h .env); mode = modeOf r; hp = h .hp } in
     let H : HatIn hat = record { ph = D .ph; det = D .det; env = e } in
     by hat (d .w) H (D .w) (le (hitOf (h .mode) r (h .env) .level) kM127p5)
@@ -55,10 +56,10 @@ module _ (f : List ℕ) where
   sounding h w true = (refl, refl)
   sounding h w false = (refl, refl)
 
-  pub hat-moves : (h : Hat) (w : Wobble) → (sampleOf f h w .hat .env ≡ hitOf (h .mode) (bytesAt f 488) (h .env)) × (sampleOf f h w .hat .mode ≡ modeOf (bytesAt f 488))
+  pub hat-moves : (h : Hat) (w : Wobble) → (sampleOf f h w .hat .env ≡ hitOf (h .mode) (bytesAt f HAT-ENV) (h .env)) × (sampleOf f h w .hat .mode ≡ modeOf (bytesAt f HAT-ENV))
   unfolding sampleOf
   hat-moves h w =
-      let r = bytesAt f 488 in
+      let r = bytesAt f HAT-ENV in
       let d = hitDraws (eqb (modeOf r) 15 && not (eqb (h .mode) 15)) (le (h .env .level) kM127p5) (h .ph) (h .det) w in
       let env = hitOf (h .mode) r (h .env) in
       sounding (record { ph = d .ph; det = d .det; env = env; mode = modeOf r; hp = h .hp }) (d .w) (le (env .level) kM127p5)

@@ -6,6 +6,7 @@ ghost use mathlib.Core.Path.{_≡_};
 ghost use mathlib.Core.Bool.{Bool};
 ghost use Prim.Native.Nat.{_≤_};
 ghost use lib.ListN.{length};
+ghost use Rattle.frame.specs.Offsets.{FRAME-BYTES};
 ghost use Rattle.hat.specs.Hat.{hatNew, colourOf, soundOf, sampleOf};
 
 #[repr(C)]
@@ -26,12 +27,12 @@ pub struct HatOut {
 
 // The colour's cutoff as the filter's coefficient.
 fn colour(f: &[u8]) -> f32
-    requires { ⌜ 664 ≤ length (now f) ⌝ }
+    requires { ⌜ FRAME-BYTES ≤ length (now f) ⌝ }
     ensures { λ r. ⌜ r ≡ colourOf (now (f .entry)) ⌝ }
 {
-    let c = frame::signed_f32(f, 130) / 32768.0;
+    let c = frame::signed_f32(f, frame::HAT_COLOUR) / 32768.0;
     let fc = float::clamp(6000.0 * power::exp2(1.5 * c), 500.0, 16000.0);
-    2.0 * sine::sin(3.1415927 * fc / 48000.0)
+    2.0 * sine::sin(float::PI * fc / float::FS)
 }
 
 impl Hat {
@@ -52,18 +53,18 @@ impl Hat {
 
     // The bank through the high-pass, of a hat that sounds.
     fn sound(self, f: &[u8], w: Wobble) -> HatOut
-        requires { ⌜ 664 ≤ length (now f) ⌝ }
+        requires { ⌜ FRAME-BYTES ≤ length (now f) ⌝ }
         ensures { λ r. ⌜ r ≡ soundOf (now (f .entry)) self w ⌝ }
     {
         let ph = self.ph;
         let det = self.det;
-        let b = metal::run(f, 616, ph, det, false);
+        let b = metal::run(f, frame::HAT_BANK, ph, det, false);
         let s = self.hp.tick(b.metal / 6.0, colour(f), 1.2);
         let next = b.ph;
         let hp = s.svf;
         let env = self.env;
-        let vca = frame::word_f32(f, 140) / 32767.0;
-        let gain = power::exp2((env.level - 127.0) / 16.0);
+        let vca = frame::word_f32(f, frame::HAT_VCA) / 32767.0;
+        let gain = power::exp2((env.level - 127.0) / float::LEVELS_PER_6DB);
         HatOut {
             hat: Hat {
                 ph: next,
@@ -78,10 +79,10 @@ impl Hat {
     }
 
     pub fn sample(self, f: &[u8], w: Wobble) -> HatOut
-        requires { ⌜ 664 ≤ length (now f) ⌝ }
+        requires { ⌜ FRAME-BYTES ≤ length (now f) ⌝ }
         ensures { λ r. ⌜ r ≡ sampleOf (now (f .entry)) self w ⌝ }
     {
-        let r = frame::bytes(f, 488);
+        let r = frame::bytes(f, frame::HAT_ENV);
         let mode = envelope::mode_of(r);
         let was = self.env;
         let ph = self.ph;

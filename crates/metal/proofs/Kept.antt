@@ -11,7 +11,7 @@ use lib.IntN.{pos}
 use lib.Ieee.{Float, nan, binary32, neg, le, lt, eq, fits, ofBits, ofInt, round}
 use Rattle.line.proofs.Range.{In}
 use Rattle.line.proofs.Whole.{ofInt-in}
-use Rattle.float.specs.Consts.{k3, k0, k127, FS, k65536, k0p5, k43p62}
+use Rattle.float.specs.Consts.{k0, k127, FS, k65536, k0p5}
 use Rattle.float.specs.Ops.{_⊕_, _⊗_, _⊘_}
 use Rattle.float.proofs.Eval.{leaf, plus, times, over, range, proves}
 use Rattle.float.proofs.Laws.{fract-in}
@@ -21,12 +21,12 @@ use Rattle.lists.specs.Turns.{turnsOf}
 use Rattle.lists.proofs.Sweep.{turns-keep, set-keeps}
 use Rattle.vco.specs.Vco.{advanced}
 use Rattle.wobble.specs.declared.Wobble.{Wobble}
-use Rattle.wobble.specs.Wobble.{phaseOf, detuneOf}
+use Rattle.wobble.specs.Wobble.{DETUNE-CENTS, phaseOf, detuneOf}
 use Rattle.wobble.proofs.Kept.{Unit, Ratio, WobbleIn, phase-in, detune-in}
 use Rattle.metal.specs.declared.Draws.{Draws}
 use Rattle.metal.specs.declared.Drawn6.{Drawn6}
 use Rattle.metal.specs.declared.Bank.{Bank}
-use Rattle.metal.specs.Metal.{drawPhase, drawDetune, hitDraws, turnOf, bankOf}
+use Rattle.metal.specs.Metal.{HAT-UNITS-PER-HZ, drawPhase, drawDetune, hitDraws, turnOf, bankOf}
 
 -- each of the six
 pub record Six (P : Float → Type 0) (xs : List Float) : Type 0 where
@@ -57,9 +57,9 @@ phases-drawn : (d : Draws) → DrawsIn Unit d → DrawsIn Unit (turnsOf 6 drawPh
 phases-drawn d h = turns-keep (DrawsIn Unit) 6 drawPhase d (λ k x l i. phase-drawn k x i) h
 
 -- ---- the bank: a field below 2 ^ 22
-turn-phase : (p t : Float) (v : ℕ) → Unit p → v < 2 ^ 22 → Ratio t → Unit (advanced p (ofInt binary32 (pos v) ⊘ k43p62 ⊗ t) FS)
+turn-phase : (p t : Float) (v : ℕ) → Unit p → v < 2 ^ 22 → Ratio t → Unit (advanced p (ofInt binary32 (pos v) ⊘ HAT-UNITS-PER-HZ ⊗ t) FS)
 unfolding advanced ofBits proves
-turn-phase p t v h k m = fract-in k127 _ (range k0 k127 (plus (leaf h) (over (times (over (leaf (field-range v k)) k43p62) (leaf m)) FS)) tt)
+turn-phase p t v h k m = fract-in k127 _ (range k0 k127 (plus (leaf h) (over (times (over (leaf (field-range v k)) HAT-UNITS-PER-HZ) (leaf m)) FS)) tt)
   where
     field-range : (v : ℕ) → v < 2 ^ 22 → In binary32 k0 (k65536 ⊗ Rattle.float.specs.Consts.k64) (ofInt binary32 (pos v))
     field-range v h = unfold ofInt round fits le lt eq lib.Ieee.mul in ofInt-in binary32 (pos 0) (pos (2 ^ 22)) k0 (k65536 ⊗ Rattle.float.specs.Consts.k64) (pos v) (le→leb 0 v (omega arith)) (le→leb v (2 ^ 22) (le-of-lt h)) tt
@@ -69,7 +69,7 @@ unfolding turnOf
 turn-in v det skip k b m D l h = by (skip && eqb v 0)
   where
     ph : Float
-    ph = advanced (getD (b .ph) k nan) (ofInt binary32 (pos v) ⊘ k43p62 ⊗ getD det k nan) FS
+    ph = advanced (getD (b .ph) k nan) (ofInt binary32 (pos v) ⊘ HAT-UNITS-PER-HZ ⊗ getD det k nan) FS
 
     by : (c : Bool) → Six Unit (cond c b (record { ph = set (b .ph) k ph; metal = b .metal ⊕ cond (lt ph k0p5) Rattle.float.specs.Consts.k1 (neg Rattle.float.specs.Consts.k1); running = b .running + 1 }) .ph)
     by true = h
@@ -81,7 +81,7 @@ bank-in f B o ph det skip h D = turns-keep (λ (b : Bank). Six Unit (b .ph)) 6 (
 
 detune-drawn : (k : ℕ) (d : Draws) → DrawsIn Ratio d → DrawsIn Ratio (drawDetune k d)
 unfolding drawDetune
-detune-drawn k d h = let r = detune-in (d .w) (h .w) in record { xs = six-set (d .xs) k (detuneOf (d .w) k3 .x) (h .xs) (r .1); w = r .0 }
+detune-drawn k d h = let r = detune-in (d .w) (h .w) in record { xs = six-set (d .xs) k (detuneOf (d .w) DETUNE-CENTS .x) (h .xs) (r .1); w = r .0 }
 
 pub hit-in : (hit silent : Bool) (ph det : List Float) (w : Wobble) → Six Unit ph → Six Ratio det → WobbleIn w → Drawn6In (hitDraws hit silent ph det w)
 unfolding hitDraws

@@ -6,25 +6,29 @@ use lib.ListN.{getD, set}
 use lib.Dec.{eqb}
 use lib.IntN.{pos}
 use lib.Ieee.{Float, binary32, nan, neg, lt, ofInt}
-use Rattle.float.specs.Consts.{k0, k1, k3, FS, k0p5, k43p62}
+use Rattle.float.specs.Consts.{k0, k1, FS, k0p5, k43p62}
 use Rattle.float.specs.Ops.{_⊕_, _⊖_, _⊗_, _⊘_}
 use Rattle.frame.specs.Frame.{fieldAt}
 use Rattle.lists.specs.Turns.{turnsOf}
 use Rattle.vco.specs.Vco.{advanced}
 use Rattle.wobble.specs.declared.Wobble.{Wobble}
-use Rattle.wobble.specs.Wobble.{phaseOf, detuneOf}
+use Rattle.wobble.specs.Wobble.{DETUNE-CENTS, phaseOf, detuneOf}
 use Rattle.metal.specs.declared.Draws.{Draws}
 use Rattle.metal.specs.declared.Drawn6.{Drawn6}
 use Rattle.metal.specs.declared.Bank.{Bank}
 use Rattle.metal.specs.declared.Svf.{Svf}
 use Rattle.metal.specs.declared.SvfOut.{SvfOut}
 
+-- a bank field's units per Hz
+abbrev pub HAT-UNITS-PER-HZ : Float
+HAT-UNITS-PER-HZ = k43p62
+
 -- the k-th of six phases drawn, and of six detunes
 unfoldable pub drawPhase : ℕ → Draws → Draws
 drawPhase k d = let p = phaseOf (d .w) in record { xs = set (d .xs) k (p .x); w = p .w }
 
 unfoldable pub drawDetune : ℕ → Draws → Draws
-drawDetune k d = let p = detuneOf (d .w) k3 in record { xs = set (d .xs) k (p .x); w = p .w }
+drawDetune k d = let p = detuneOf (d .w) DETUNE-CENTS in record { xs = set (d .xs) k (p .x); w = p .w }
 
 -- a hit draws six detunes, and before them six phases where it follows silence
 unfoldable pub hitDraws : Bool → Bool → List Float → List Float → Wobble → Drawn6
@@ -37,7 +41,7 @@ hitDraws hit silent ph det w =
 -- oscillator k of the bank: its phase advances, and its square joins the sum; where `skip` is true a field of 0 leaves it off
 unfoldable pub turnOf : ℕ → List Float → Bool → ℕ → Bank → Bank
 turnOf v det skip k b =
-    let ph = advanced (getD (b .ph) k nan) (ofInt binary32 (pos v) ⊘ k43p62 ⊗ getD det k nan) FS in
+    let ph = advanced (getD (b .ph) k nan) (ofInt binary32 (pos v) ⊘ HAT-UNITS-PER-HZ ⊗ getD det k nan) FS in
     cond (skip && eqb v 0) b
     (record { ph = set (b .ph) k ph; metal = b .metal ⊕ cond (lt ph k0p5) k1 (neg k1); running = b .running + 1 })
 

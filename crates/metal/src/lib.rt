@@ -1,11 +1,16 @@
 // What the hat and the cymbal share: draws on a hit, a bank of six square waves, a state-variable filter.
+use wobble::DETUNE_CENTS;
 use wobble::Wobble;
 ghost use mathlib.Core.Path.{_≡_};
 ghost use mathlib.Core.Bool.{Bool};
 ghost use Prim.Native.Nat.{_+_, _≤_, _<_};
 ghost use lib.ListN.{length};
+ghost use Rattle.frame.specs.Offsets.{FRAME-BYTES};
 ghost use Rattle.lists.specs.Turns.{turnsOf};
 ghost use Rattle.metal.specs.Metal.{drawPhase, drawDetune, hitDraws, turnOf, bankOf, svfOf};
+
+// A bank field's units per Hz.
+const HAT_UNITS_PER_HZ: f32 = 43.62;
 
 // ---- draws
 
@@ -34,7 +39,7 @@ fn draw_detune(d: Draws, k: usize) -> Draws
 {
     let mut next = d;
     let w = next.w;
-    let p = w.detune(3.0);
+    let p = w.detune(DETUNE_CENTS);
     next.xs[k] = p.x;
     let after = p.w;
     next.w = after;
@@ -120,7 +125,11 @@ fn turn(b: Bank, k: usize, v: u32, det: [f32; 6], skip: bool) -> Bank
         return b;
     }
     let mut next = b;
-    let ph = vco::advance(next.ph[k], float::from_u32(v) / 43.62 * det[k], 48000.0);
+    let ph = vco::advance(
+        next.ph[k],
+        float::from_u32(v) / HAT_UNITS_PER_HZ * det[k],
+        float::FS,
+    );
     next.ph[k] = ph;
     next.metal = next.metal + float::choose(ph < 0.5, 1.0, -1.0);
     next.running = next.running + 1;
@@ -129,7 +138,7 @@ fn turn(b: Bank, k: usize, v: u32, det: [f32; 6], skip: bool) -> Bank
 
 // The six in turn; their fields stand from `o` on.
 pub fn run(f: &[u8], o: usize, ph: [f32; 6], det: [f32; 6], skip: bool) -> Bank
-    requires { ⌜ (664 ≤ length (now f)) × (o ≤ 640) ⌝ }
+    requires { ⌜ (FRAME-BYTES ≤ length (now f)) × (o + 24 ≤ FRAME-BYTES) ⌝ }
     ensures { λ r. ⌜ (r ≡ bankOf (now (f .entry)) o ph det skip) × (r .running ≤ 6) ⌝ }
 {
     let mut b = Bank {

@@ -1,7 +1,7 @@
 // Plays the recording on standard input and writes a line for each step, in blocks.
 use board::Outcome;
-use stereo::Mix;
 use recording::Playing;
+use stereo::Mix;
 ghost use mathlib.Core.Path.{_≡_};
 ghost use mathlib.Core.Bool.{Bool};
 ghost use mathlib.Core.List.{_++_};

@@ -5,7 +5,7 @@ use mathlib.Core.List.{List, []}
 use lib.ListN.{getD, set}
 use lib.IntN.{ℤ, pos}
 use lib.Ieee.{nan}
-use Rattle.frame.specs.Offsets.{dualSpec, tomSpec}
+use Rattle.frame.specs.Offsets.{HAT-VOICE, CYM-VOICE, dualSpec, tomSpec}
 use Rattle.lists.specs.Turns.{turnsOf}
 use Rattle.dual.specs.Dual as Dual
 use Rattle.tom.specs.Tom as Tom
@@ -54,12 +54,12 @@ tomTurn f dac t s =
 unfoldable pub tomsOf : List ℕ → List ℤ → Sources → Sources
 tomsOf f dac s = turnsOf 3 (tomTurn f dac) s
 
--- the cymbal, voice 6, draws before the hat, voice 4
+-- the cymbal draws before the hat
 unfoldable pub metalOf : List ℕ → Sources → Sources
 metalOf f s =
     let o = Cym.sampleOf f (s .cym) (s .w) in
     let p = Hat.sampleOf f (s .hat) (o .w) in
-    record { duals = s .duals; hat = p .hat; toms = s .toms; cym = o .cym; w = p .w; src = set (set (s .src) 6 (o .y)) 4 (p .y) }
+    record { duals = s .duals; hat = p .hat; toms = s .toms; cym = o .cym; w = p .w; src = set (set (s .src) CYM-VOICE (o .y)) HAT-VOICE (p .y) }
 
 -- "Dual voices BD, SD, RS; toms 1, 3, 5; cymbal; hat"
 unfoldable pub soundOf : List ℕ → List ℤ → Sources → Sources

@@ -9,6 +9,7 @@ ghost use Prim.Native.Nat.{_≤_, _<_};
 ghost use lib.ListN.{length, getD, replicate};
 ghost use lib.IntN.{pos};
 ghost use Rattle.float.specs.Consts.{k0};
+ghost use Rattle.frame.specs.Offsets.{FRAME-BYTES};
 ghost use Rattle.sources.specs.Sources.{soundOf};
 
 // The sources as far as the step has gone, and the samples of the voices that have sounded.
@@ -29,7 +30,7 @@ fn dac_at(dac: &[i32], i: usize) -> i32
     dac[i]
 }
 
-// All eight: the dual voices, the toms, the cymbal (voice 6), the hat (voice 4).
+// All eight: the dual voices, the toms, the cymbal, the hat.
 pub fn sound(
     duals: [DualOsc; 3],
     hat: Hat,
@@ -39,7 +40,7 @@ pub fn sound(
     f: &[u8],
     dac: &[i32],
 ) -> Sources
-    requires { ⌜ (664 ≤ length (now f)) × (16 ≤ length (now dac)) ⌝ }
+    requires { ⌜ (FRAME-BYTES ≤ length (now f)) × (16 ≤ length (now dac)) ⌝ }
     ensures { λ r. ⌜ r ≡ soundOf (now (f .entry)) (now (dac .entry)) (record { duals = duals; hat = hat; toms = toms; cym = cym; w = w; src = replicate 8 k0 }) ⌝ }
 {
     let mut duals = duals;
@@ -81,8 +82,8 @@ pub fn sound(
     let last = p.w;
     let y = o.y;
     let z = p.y;
-    src[6] = y;
-    src[4] = z;
+    src[frame::CYM_VOICE] = y;
+    src[frame::HAT_VOICE] = z;
     Sources {
         duals,
         hat,

@@ -6,6 +6,7 @@ use lib.ListN.{length}
 use lib.Dec.{ltb}
 use lib.IntN.{ℤ}
 use Rattle.float.specs.Consts.{k0}
+use Rattle.frame.specs.Offsets.{FRAME-BYTES}
 use Rattle.wobble.specs.declared.Wobble.{Wobble}
 use Rattle.dual.specs.declared.DualOsc.{DualOsc}
 use Rattle.dual.specs.declared.DualOut.{DualOut}
@@ -22,16 +23,16 @@ use Rattle.tom.specs.Tom as TomSpec
 
 -- a dual voice: its sample, and under 664 bytes the state as before and 0
 unfoldable pub dualAnswer : List ℕ → ℕ → DualOsc → Wobble → DualOut
-dualAnswer f d e w = cond (ltb (length f) 664) (record { dual = e; w = w; y = k0 }) (Dual.sampleOf f d e w)
+dualAnswer f d e w = cond (ltb (length f) FRAME-BYTES) (record { dual = e; w = w; y = k0 }) (Dual.sampleOf f d e w)
 
 -- the hat alike
 unfoldable pub hatAnswer : List ℕ → Hat → Wobble → HatOut
-hatAnswer f h w = cond (ltb (length f) 664) (record { hat = h; w = w; y = k0 }) (HatSpec.sampleOf f h w)
+hatAnswer f h w = cond (ltb (length f) FRAME-BYTES) (record { hat = h; w = w; y = k0 }) (HatSpec.sampleOf f h w)
 
 -- the cymbal alike
 unfoldable pub cymAnswer : List ℕ → Cym → Wobble → CymOut
-cymAnswer f c w = cond (ltb (length f) 664) (record { cym = c; w = w; y = k0 }) (CymSpec.sampleOf f c w)
+cymAnswer f c w = cond (ltb (length f) FRAME-BYTES) (record { cym = c; w = w; y = k0 }) (CymSpec.sampleOf f c w)
 
 -- a tom alike
 unfoldable pub tomAnswer : List ℕ → ℕ → ℤ → Tom → Wobble → TomOut
-tomAnswer f t d o w = cond (ltb (length f) 664) (record { tom = o; w = w; y = k0 }) (TomSpec.sampleOf f t d o w)
+tomAnswer f t d o w = cond (ltb (length f) FRAME-BYTES) (record { tom = o; w = w; y = k0 }) (TomSpec.sampleOf f t d o w)

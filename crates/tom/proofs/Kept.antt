@@ -13,12 +13,12 @@ use Rattle.wobble.proofs.Kept.{WobbleIn, either, detune-in}
 use Rattle.tom.specs.declared.Tom.{Tom}
 use Rattle.tom.specs.declared.TomOut.{TomOut}
 use Rattle.tom.specs.declared.Excited.{Excited}
-use Rattle.tom.specs.Tom.{isZero, exciteOf, hzOf, sampleOf}
+use Rattle.tom.specs.Tom.{TOM-REST, isZero, exciteOf, hzOf, sampleOf}
 
 excite-in : (det : Float) (quiet : ℕ) (d : ℤ) (w : Wobble) → WobbleIn w → WobbleIn (exciteOf det quiet d w .w)
 unfolding exciteOf
 excite-in det quiet d w h =
-    either (λ (e : Excited). WobbleIn (e .w)) (isZero d) _ _ h (either (λ (e : Excited). WobbleIn (e .w)) (ltb quiet 64) _ _ h (detune-in w h .0))
+    either (λ (e : Excited). WobbleIn (e .w)) (isZero d) _ _ h (either (λ (e : Excited). WobbleIn (e .w)) (ltb quiet TOM-REST) _ _ h (detune-in w h .0))
 
 pub tom-in : (f : List ℕ) (t : ℕ) (d : ℤ) (o : Tom) (w : Wobble) → WobbleIn w → WobbleIn (sampleOf f t d o w .w)
 unfolding sampleOf

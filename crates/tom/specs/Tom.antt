@@ -5,7 +5,7 @@ use mathlib.Core.List.{List}
 use lib.Dec.{ltb, eqb}
 use lib.IntN.{ℤ, pos, negsuc}
 use lib.Ieee.{Float, binary32, neg, lt, le, ofInt}
-use Rattle.float.specs.Consts.{k0, k1, k2, k3, k10, k2048, k12000, k32767, FS, k65535, k8388608, k0p03, k0p1, k0p99, k5p64, TAU}
+use Rattle.float.specs.Consts.{k0, k1, k2, k10, k2048, k12000, k32767, FS, k65535, k8388608, k0p03, k0p1, k0p99, k5p64, TAU}
 use Rattle.float.specs.Ops.{_⊕_, _⊖_, _⊗_, _⊘_}
 use Rattle.float.specs.Floats.{minOf, maxOf}
 use Rattle.frame.specs.Frame.{wordF, signedF}
@@ -14,14 +14,22 @@ use Rattle.power.specs.Power.{exp2Of, expOf}
 use Rattle.sine.specs.Sine.{cosOf}
 use Rattle.root.specs.Root.{sqrtOf}
 use Rattle.wobble.specs.declared.Wobble.{Wobble}
-use Rattle.wobble.specs.Wobble.{detuneOf}
+use Rattle.wobble.specs.Wobble.{DETUNE-CENTS, detuneOf}
 use Rattle.tom.specs.declared.Tom.{Tom}
 use Rattle.tom.specs.declared.TomOut.{TomOut}
 use Rattle.tom.specs.declared.Excited.{Excited}
 
+-- the calibration's law: a tune CV of x * x / 2048 is x times this in Hz
+abbrev pub TOM-HZ-PER-X : Float
+TOM-HZ-PER-X = k0p1
+
+-- zero words that make a rest
+abbrev pub TOM-REST : ℕ
+TOM-REST = 64
+
 -- "a fresh tom counts as rested"
 unfoldable pub tomNew : Tom
-tomNew = record { y1 = k0; y2 = k0; det = k1; quiet = 64 }
+tomNew = record { y1 = k0; y2 = k0; det = k1; quiet = TOM-REST }
 
 -- a DAC word of zero
 abbrev pub isZero : ℤ → Bool
@@ -31,13 +39,13 @@ isZero (negsuc n) = false
 -- "Toms redraw detune on a nonzero DAC word after at least 64 zero ones"
 unfoldable pub exciteOf : Float → ℕ → ℤ → Wobble → Excited
 exciteOf det quiet d w =
-    let h = detuneOf w k3 in
+    let h = detuneOf w DETUNE-CENTS in
     cond (isZero d) (record { det = det; quiet = min (quiet + 1) (2 ^ 32 - 1); w = w })
-    (cond (ltb quiet 64) (record { det = det; quiet = 0; w = w }) (record { det = h .x; quiet = 0; w = h .w }))
+    (cond (ltb quiet TOM-REST) (record { det = det; quiet = 0; w = w }) (record { det = h .x; quiet = 0; w = h .w }))
 
 -- the pitch of a tune CV
 unfoldable pub hzOf : Float → Float → Float
-hzOf cv det = k0p1 ⊗ sqrtOf (k2048 ⊗ cv) ⊗ det
+hzOf cv det = TOM-HZ-PER-X ⊗ sqrtOf (k2048 ⊗ cv) ⊗ det
 
 -- the part of the ring that a sample keeps, by the decay CV
 unfoldable pub decayOf : Float → Float

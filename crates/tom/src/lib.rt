@@ -1,10 +1,17 @@
 // A tom: a resonator that the DAC word of its exciter rings.
+use wobble::DETUNE_CENTS;
 use wobble::Wobble;
 ghost use mathlib.Core.Path.{_≡_};
 ghost use mathlib.Core.Bool.{Bool};
 ghost use Prim.Native.Nat.{_≤_};
 ghost use lib.ListN.{length};
+ghost use Rattle.frame.specs.Offsets.{FRAME-BYTES};
 ghost use Rattle.tom.specs.Tom.{tomNew, exciteOf, hzOf, decayOf, ringOf, sampleOf};
+
+// The calibration's law: a tune CV of x * x / 2048 is x times this.
+const TOM_HZ_PER_X: f32 = 0.1;
+// Zero words that make a rest.
+const TOM_REST: u32 = 64;
 
 #[repr(C)]
 pub struct Tom {
@@ -30,7 +37,7 @@ pub struct Excited {
     pub w: Wobble,
 }
 
-// A nonzero word after at least 64 zero ones is a hit, which draws its detune.
+// A nonzero word after a rest is a hit, which draws its detune.
 fn excite(det: f32, quiet: u32, d: i32, w: Wobble) -> Excited
     ensures { λ r. ⌜ r ≡ exciteOf det quiet d w ⌝ }
 {
@@ -41,10 +48,10 @@ fn excite(det: f32, quiet: u32, d: i32, w: Wobble) -> Excited
             w,
         };
     }
-    if quiet < 64 {
+    if quiet < TOM_REST {
         return Excited { det, quiet: 0, w };
     }
-    let h = w.detune(3.0);
+    let h = w.detune(DETUNE_CENTS);
     let next = h.w;
     Excited {
         det: h.x,
@@ -56,7 +63,7 @@ fn excite(det: f32, quiet: u32, d: i32, w: Wobble) -> Excited
 fn hz(cv: f32, det: f32) -> f32
     ensures { λ r. ⌜ r ≡ hzOf cv det ⌝ }
 {
-    0.1 * root::sqrt(2048.0 * cv) * det
+    TOM_HZ_PER_X * root::sqrt(2048.0 * cv) * det
 }
 
 // How much of its ring a sample keeps: 30 ms at 0 to 1.5 s at full scale.
@@ -64,14 +71,14 @@ fn decay(d: f32) -> f32
     ensures { λ r. ⌜ r ≡ decayOf d ⌝ }
 {
     let tau = 0.03 * power::exp2(float::max(d, 0.0) * 5.64);
-    power::exp(-1.0 / (tau * 48000.0))
+    power::exp(-1.0 / (tau * float::FS))
 }
 
 // The resonator's next sample, its input scaled so that the ring's peak does not grow with its length.
 fn ring(t: Tom, hz: f32, r: f32, x: f32) -> f32
     ensures { λ y. ⌜ y ≡ ringOf t hz r x ⌝ }
 {
-    let w = 6.2831855 * float::min(hz, 12000.0) / 48000.0;
+    let w = float::TAU * float::min(hz, 12000.0) / float::FS;
     2.0 * r * sine::cos(w) * t.y1 - r * r * t.y2 + x * (1.0 - r)
 }
 
@@ -83,13 +90,13 @@ impl Tom {
             y1: 0.0,
             y2: 0.0,
             det: 1.0,
-            quiet: 64,
+            quiet: TOM_REST,
         }
     }
 
     // One sample of tom t (0 BT, 1 LT, 2 MT/HT), whose exciter's DAC word is d.
     pub fn sample(self, f: &[u8], t: usize, d: i32, w: Wobble) -> TomOut
-        requires { ⌜ 664 ≤ length (now f) ⌝ }
+        requires { ⌜ FRAME-BYTES ≤ length (now f) ⌝ }
         ensures { λ r. ⌜ r ≡ sampleOf (now (f .entry)) t d self w ⌝ }
     {
         let s = frame::tom_spec(t);

@@ -2,7 +2,7 @@
 use mathlib.Core.Bool.{Bool, true, false}
 use lib.Ieee.{Float, binary32, neg, lt, le, eq, fits, ofBits}
 use Rattle.line.proofs.Range.{In, in-cond, in-wide, cut-high, cut-low, lt→le, not-lt, good-of}
-use Rattle.float.specs.Consts.{k0, k1, k2, k3, k4, k8, k127, k4096, FS, k65535, k0p25, k0p3, k0p35, k0p45, k0p5, k0p7, k1p01, k1p3, TAU}
+use Rattle.float.specs.Consts.{k0, k1, k2, k3, k4, k8, k127, FS, k65535, k0p25, k0p3, k0p35, k0p45, k0p5, k0p7, k1p01, k1p3, TAU}
 use Rattle.float.specs.Ops.{_⊕_, _⊖_, _⊗_, _⊘_}
 use Rattle.float.specs.Floats.{minOf, fractOf}
 use Rattle.float.proofs.Eval.{leaf, con, plus, minus, times, over, capped, range, proves}
@@ -12,7 +12,7 @@ use Rattle.sine.proofs.Laws.{sin-in}
 use Rattle.wobble.proofs.Kept.{Unit}
 use Rattle.vco.specs.declared.Wave.{Wave}
 use Rattle.vco.specs.declared.Wave.the-variants.{Off, Sine, AsymSine, Triangle, SineSaw, Saw, Square}
-use Rattle.vco.specs.Vco.{asymOf, waveAt, oscOf, modulated, advanced, advancedFm}
+use Rattle.vco.specs.Vco.{FM-UNITS, asymOf, waveAt, oscOf, modulated, advanced, advancedFm}
 
 -- from -2 to 2
 abbrev pub Wide : Float → Type 0
@@ -62,8 +62,8 @@ advanced-in p v h k = fract-in k3 (p ⊕ v ⊘ FS) (range k0 k3 (plus (leaf h) (
 pub advanced-fm-in : (fm : Bool) (p v w o : Float) → Unit p → In binary32 k0 k65535 v → In binary32 k0 k65535 w → Wide o → Unit (advancedFm p (modulated fm (minOf v (FS ⊗ k0p45)) w o) FS)
 unfolding advancedFm modulated ofBits proves
 advanced-fm-in true p v w o h a b c =
-    rem-euclid-in (p ⊕ minOf v (FS ⊗ k0p45) ⊗ (k1 ⊕ w ⊘ k4096 ⊗ o) ⊘ FS)
-    (range (neg k127) k127 (plus (leaf h) (over (times (capped (leaf a) (FS ⊗ k0p45)) (plus (con k1) (times (over (leaf b) k4096) (leaf c)))) FS)) tt .ok)
+    rem-euclid-in (p ⊕ minOf v (FS ⊗ k0p45) ⊗ (k1 ⊕ w ⊘ FM-UNITS ⊗ o) ⊘ FS)
+    (range (neg k127) k127 (plus (leaf h) (over (times (capped (leaf a) (FS ⊗ k0p45)) (plus (con k1) (times (over (leaf b) FM-UNITS) (leaf c)))) FS)) tt .ok)
 advanced-fm-in false p v w o h a b c =
     rem-euclid-in (p ⊕ minOf v (FS ⊗ k0p45) ⊘ FS)
     (range (neg k127) k127 (plus (leaf h) (over (capped (leaf a) (FS ⊗ k0p45)) FS)) tt .ok)

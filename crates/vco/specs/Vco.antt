@@ -11,6 +11,10 @@ use Rattle.vco.specs.declared.Osc2Set.{Osc2Set}
 use Rattle.vco.specs.declared.Pair.{Pair}
 use Rattle.vco.specs.declared.PairOut.{PairOut}
 
+-- FM depth: units of oscillator 2's level word per 1.0 of relative frequency deviation
+abbrev pub FM-UNITS : Float
+FM-UNITS = k4096
+
 -- "Waveform codes (a, b, c)": 101 sine, 001 asymmetric sine, 111 triangle, 100 sinesaw, 110 saw, 011 square, 000 and 010 off
 unfoldable pub fromBits : Bool → Bool → Bool → Wave
 fromBits true false true = Sine
@@ -46,7 +50,7 @@ ringOf on o1 stopped ph = cond on (o1 ⊗ cond (stopped || lt ph k0p5) k1 (neg k
 
 -- FM, through zero
 unfoldable pub modulated : Bool → Float → Float → Float → Float
-modulated fm f1 depth o2 = cond fm (f1 ⊗ (k1 ⊕ depth ⊘ k4096 ⊗ o2)) f1
+modulated fm f1 depth o2 = cond fm (f1 ⊗ (k1 ⊕ depth ⊘ FM-UNITS ⊗ o2)) f1
 
 -- "A phase advances by frequency / 48000 and keeps its fraction"
 unfoldable pub advanced : Float → Float → Float → Float

@@ -3,6 +3,9 @@ ghost use mathlib.Core.Path.{_≡_};
 ghost use mathlib.Core.Bool.{Bool};
 ghost use Rattle.vco.specs.Vco.{fromBits, waveAt, asymOf, oscOf, ringOf, modulated, advanced, advancedFm, pairOf};
 
+// FM depth: units of oscillator 2's level word per 1.0 of relative frequency deviation.
+pub const FM_UNITS: f32 = 4096.0;
+
 pub enum Wave {
     Off,
     Sine,
@@ -48,10 +51,10 @@ impl Wave {
     {
         match self {
             Wave::Off => 0.0,
-            Wave::Sine => sine::sin(6.2831855 * ph),
-            Wave::AsymSine => sine::sin(6.2831855 * asym(ph)),
+            Wave::Sine => sine::sin(float::TAU * ph),
+            Wave::AsymSine => sine::sin(float::TAU * asym(ph)),
             Wave::Triangle => 1.0 - 4.0 * float::abs(float::fract(ph + 0.25) - 0.5),
-            Wave::SineSaw => 0.7 * sine::sin(6.2831855 * ph) + 0.3 * (2.0 * ph - 1.0),
+            Wave::SineSaw => 0.7 * sine::sin(float::TAU * ph) + 0.3 * (2.0 * ph - 1.0),
             Wave::Saw => 2.0 * float::fract(ph + 0.5) - 1.0,
             Wave::Square => float::choose(ph < 0.5, 1.0, -1.0),
         }
@@ -112,7 +115,7 @@ fn ring(on: bool, o1: f32, stopped: bool, ph: f32) -> f32
 fn modulate(fm: bool, f1: f32, depth_word: f32, o2: f32) -> f32
     ensures { λ r. ⌜ r ≡ modulated fm f1 «depth_word» o2 ⌝ }
 {
-    float::choose(fm, f1 * (1.0 + depth_word / 4096.0 * o2), f1)
+    float::choose(fm, f1 * (1.0 + depth_word / FM_UNITS * o2), f1)
 }
 
 // A phase advanced by hz / fs: its fraction.

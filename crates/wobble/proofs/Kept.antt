@@ -1,6 +1,6 @@
 -- The random source and the drift stay within their ranges: a draw lies from -1 to 1, a detune and a drift's ratio from a half to 2, the drift from -128 to 128 cents,
 -- since at 127 and beyond the pull back exceeds the largest kick. Assumes nothing.
-use Prim.Native.Nat.{ℕ, _*_, _/_, _%_, _^_, _≤_, _<_}
+use Prim.Native.Nat.{ℕ, _-_, _*_, _/_, _%_, _^_, _≤_, _<_}
 use native.Mathlib.Nat.{mod-lt, lt-of-le-of-lt, le-of-lt, div-le-self}
 use native.Mathlib.Omega.{arith}
 use mathlib.Core.Path.{_≡_, refl}
@@ -14,7 +14,7 @@ use lib.Ieee.{Float, binary32, fin, neg, le, eq, mul, div, lt, fits, round, ofIn
 use Rattle.line.proofs.Range.{In, in-cond, in-wide, split}
 use Rattle.line.proofs.Rem.{nought-in}
 use Rattle.line.proofs.Whole.{ofInt-in}
-use Rattle.float.specs.Consts.{k0, k1, k2, k3, k32, k127, k1200, FS, k0p5, k1p5, kM128, kUMax}
+use Rattle.float.specs.Consts.{k0, k1, k2, k3, k127, k1200, FS, k0p5, kM128, kUMax}
 use Rattle.float.specs.Ops.{_⊕_, _⊖_, _⊗_, _⊘_}
 use Rattle.float.proofs.Eval.{Ex, leaf, con, plus, minus, times, over, range, proves}
 use Rattle.root.specs.Root.{sqrtOf}
@@ -23,7 +23,7 @@ use Rattle.power.proofs.Laws.{exp2-octave}
 use Rattle.wobble.specs.declared.Wobble.{Wobble}
 use Rattle.wobble.specs.declared.Drift.{Drift}
 use Rattle.wobble.specs.declared.Drifted.{Drifted}
-use Rattle.wobble.specs.Wobble.{xorshiftOf, uniOf, detuneOf, phaseOf, centsOf, driftOf}
+use Rattle.wobble.specs.Wobble.{DETUNE-CENTS, DRIFT-CENTS, DRIFT-TAU, DRIFT-EVERY, xorshiftOf, uniOf, detuneOf, phaseOf, centsOf, driftOf}
 
 -- from 0 to 1, from -1 to 1, and from a half to 2
 abbrev pub Unit : Float → Type 0
@@ -92,27 +92,27 @@ root3-is : sqrtOf k3 ≡ root3
 unfolding root3 sqrtOf ofBits toBits leadingZeros
 root3-is = refl
 
-root2a-is : sqrtOf (k2 ⊗ (k32 ⊘ FS ⊘ k0p5)) ≡ root2a
-unfolding root2a sqrtOf ofBits toBits mul div round leadingZeros
+root2a-is : sqrtOf (k2 ⊗ (ofInt binary32 (pos DRIFT-EVERY) ⊘ FS ⊘ DRIFT-TAU)) ≡ root2a
+unfolding root2a sqrtOf ofBits toBits mul div ofInt round leadingZeros
 root2a-is = refl
 
 -- the drift's step as an expression, for cents from a to b
 abbrev drift-ex : {a b c u d : Float} → In binary32 a b c → Both u → Unit d → Ex binary32
 drift-ex h k m =
-    let a = k32 ⊘ FS ⊘ k0p5 in
-    plus (leaf h) (plus (times (con (neg a)) (leaf h)) (times (times (times (times (leaf k) (con root3)) (con k1p5)) (con root2a)) (leaf m)))
+    let a = ofInt binary32 (pos DRIFT-EVERY) ⊘ FS ⊘ DRIFT-TAU in
+    plus (leaf h) (plus (times (con (neg a)) (leaf h)) (times (times (times (times (leaf k) (con root3)) (con DRIFT-CENTS)) (con root2a)) (leaf m)))
 
 module _ (c u d : Float) (k : Both u) (m : Unit d) where
   middle : In binary32 (neg k127) k127 c → In binary32 kM128 (neg kM128) (centsOf c u d)
-  unfolding centsOf ofBits proves root3 root2a
+  unfolding centsOf ofBits ofInt proves root3 root2a
   middle h = rw (root3-is, root2a-is) (range kM128 (neg kM128) (drift-ex h k m) tt)
 
   top : In binary32 k127 (neg kM128) c → In binary32 kM128 (neg kM128) (centsOf c u d)
-  unfolding centsOf ofBits proves root3 root2a
+  unfolding centsOf ofBits ofInt proves root3 root2a
   top h = rw (root3-is, root2a-is) (range kM128 (neg kM128) (drift-ex h k m) tt)
 
   bottom : In binary32 kM128 (neg k127) c → In binary32 kM128 (neg kM128) (centsOf c u d)
-  unfolding centsOf ofBits proves root3 root2a
+  unfolding centsOf ofBits ofInt proves root3 root2a
   bottom h = rw (root3-is, root2a-is) (range kM128 (neg kM128) (drift-ex h k m) tt)
 
   pub cents-in : In binary32 kM128 (neg kM128) c → In binary32 kM128 (neg kM128) (centsOf c u d)
@@ -123,12 +123,12 @@ exp2-half : (t : Float) → In binary32 (neg k0p5) k0p5 t → Ratio (exp2Of t)
 unfolding ofBits
 exp2-half t h = exp2-octave (unfold fits le lt eq neg in in-wide binary32 (fin true 1 (pos 0)) (fin false 1 (pos 0)) h tt)
 
-pub detune-in : (w : Wobble) → WobbleIn w → WobbleIn (detuneOf w k3 .w) × Ratio (detuneOf w k3 .x)
+pub detune-in : (w : Wobble) → WobbleIn w → WobbleIn (detuneOf w DETUNE-CENTS .w) × Ratio (detuneOf w DETUNE-CENTS .x)
 unfolding detuneOf
 detune-in w h = let r = uni-in w h in (r .0, exp2-half _ (small (uniOf w .x) (w .depth) (r .1) (h .depth)))
   where
-    small : (u d : Float) → Both u → Unit d → In binary32 (neg k0p5) k0p5 (u ⊗ k3 ⊗ d ⊘ k1200)
-    small u d a b = unfold proves ofBits in range (neg k0p5) k0p5 (over (times (times (leaf a) (con k3)) (leaf b)) k1200) tt
+    small : (u d : Float) → Both u → Unit d → In binary32 (neg k0p5) k0p5 (u ⊗ DETUNE-CENTS ⊗ d ⊘ k1200)
+    small u d a b = unfold proves ofBits in range (neg k0p5) k0p5 (over (times (times (leaf a) (con DETUNE-CENTS)) (leaf b)) k1200) tt
 
 ratio-in : (c : Float) → In binary32 kM128 (neg kM128) c → Ratio (exp2Of (c ⊘ k1200))
 ratio-in c h = exp2-half (c ⊘ k1200) small
@@ -141,6 +141,6 @@ unfolding driftOf
 drift-in d w h k =
     let r = uni-in w k in
     let c = cents-in (d .cents) (uniOf w .x) (w .depth) (r .1) (k .depth) (h .cents) in
-    either (λ (x : Drifted). DriftIn (x .drift) × WobbleIn (x .w)) (ltb (d .n) 31) _ _
+    either (λ (x : Drifted). DriftIn (x .drift) × WobbleIn (x .w)) (ltb (d .n) (DRIFT-EVERY - 1)) _ _
     (record { cents = h .cents; ratio = h .ratio }, k)
     (record { cents = c; ratio = ratio-in _ c }, r .0)

@@ -3,6 +3,17 @@ ghost use mathlib.Core.Path.{_≡_};
 ghost use mathlib.Core.Bool.{Bool};
 ghost use Rattle.wobble.specs.Wobble.{xorshiftOf, newOf, uniOf, detuneOf, phaseOf, driftNew, driftOf};
 
+// A board's seed where none is given.
+pub const DEFAULT_SEED: u32 = 0x2545F491;
+// How far a hit is detuned at most.
+pub const DETUNE_CENTS: f32 = 3.0;
+// How far an oscillator drifts.
+const DRIFT_CENTS: f32 = 1.5;
+// Within how many seconds.
+const DRIFT_TAU: f32 = 0.5;
+// In how many samples the drift moves once.
+const DRIFT_EVERY: u32 = 32;
+
 #[repr(C)]
 pub struct Wobble {
     pub s: u32,
@@ -38,7 +49,7 @@ impl Wobble {
         }
     }
 
-    // Uniform in -1..1.
+    // Uniform in -1..1; `u32::MAX as f32` is 2^32.
     pub fn uni(self) -> Drawn
         ensures { λ r. ⌜ r ≡ uniOf self ⌝ }
     {
@@ -102,11 +113,11 @@ impl Drift {
         }
     }
 
-    // On every 32nd tick a kick, and the pull back.
+    // On every `DRIFT_EVERY`th tick a kick, and the pull back.
     pub fn tick(self, w: Wobble) -> Drifted
         ensures { λ r. ⌜ r ≡ driftOf self w ⌝ }
     {
-        if self.n < 31 {
+        if self.n < DRIFT_EVERY - 1 {
             return Drifted {
                 drift: Drift {
                     cents: self.cents,
@@ -116,9 +127,9 @@ impl Drift {
                 w,
             };
         }
-        let a = 32.0 / 48000.0 / 0.5;
+        let a = DRIFT_EVERY as f32 / float::FS / DRIFT_TAU;
         let d = w.uni();
-        let kick = d.x * root::sqrt(3.0) * 1.5 * root::sqrt(2.0 * a);
+        let kick = d.x * root::sqrt(3.0) * DRIFT_CENTS * root::sqrt(2.0 * a);
         let cents = self.cents + (-a * self.cents + kick * w.depth);
         let next = d.w;
         Drifted {

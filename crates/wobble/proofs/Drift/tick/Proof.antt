@@ -1,16 +1,24 @@
 -- `wobble::Drift::tick` meets its contract: it counts, or draws, by the test of the counter. Assumes nothing.
+use lib.Ieee.{inFloat}
 use borrow.Author.Tests.{le-ltb, lt-ltb}
 use Rattle.wobble.specs.Wobble.{driftOf, centsOf}
 use borrow.Author.Needs.{needs}
 use Rattle.wobble.proofs.Drift.tick.Statement.{statement}
 use Rattle.wobble.proofs.Drift.tick.Tie as tie
 
-add-t9 : tie.Need-add-t9
-add-t9 c = search needs
+sub-if1 : tie.Need-sub-if1
+sub-if1 c = search needs
+
+add-t10 : tie.Need-add-t10
+add-t10 c = search needs
 
 returns : tie.Need-returns
 unfolding driftOf centsOf
 returns c = rw (lt-ltb _ _ (c .before .if1 .taken))
+
+int-to-float-a : tie.Need-int-to-float-a
+unfolding inFloat
+int-to-float-a c = search needs
 
 uni-requires : tie.Need-uni-requires
 uni-requires c κs = search needs
@@ -31,4 +39,4 @@ returns-2 c = rw (le-ltb _ _ (c .before .before .before .before .before .before 
 pub tick-spec : {M : Type 1} → statement M
 tick-spec =
     tie.close
-    (tie.spec add-t9 returns uni-requires sqrt-requires sqrt-requires-2 exp2-requires returns-2)
+    (tie.spec sub-if1 add-t10 returns int-to-float-a uni-requires sqrt-requires sqrt-requires-2 exp2-requires returns-2)

@@ -1,8 +1,8 @@
--- `dual::read` meets its contract: each field by its call. Assumes nothing.
-use Rattle.dual.specs.Dual.{settingOf}
+-- `dual::Settings::read` meets its contract: each field by its call. Assumes nothing.
+use Rattle.dual.specs.Dual.{settingsOf}
 use borrow.Author.Needs.{needs}
-use Rattle.dual.proofs.read.Statement.{statement}
-use Rattle.dual.proofs.read.Tie as tie
+use Rattle.dual.proofs.Settings.read.Statement.{statement}
+use Rattle.dual.proofs.Settings.read.Tie as tie
 
 switch-requires : tie.Need-switch-requires
 switch-requires c κs = search needs
@@ -50,7 +50,7 @@ record-requires-3 : tie.Need-record-requires-3
 record-requires-3 c κs = search needs
 
 returns : tie.Need-returns
-unfolding settingOf
+unfolding settingsOf
 returns c = rw (← c .before .before .before .before .before .before .before .before .before .before .before .before .before .before .switch .ensures, ← c .before .before .before .before .before .before .before .before .before .before .before .before .before .switch2 .ensures, ← c .before .before .before .before .before .before .before .before .before .before .before .before .switch3 .ensures, ← c .before .before .before .before .before .before .before .before .before .before .before .switch4 .ensures, ← c .before .before .before .before .before .before .before .before .before .before .switch5 .ensures, ← c .before .before .before .before .before .before .before .before .before .from-bits .ensures, ← c .before .before .before .before .before .before .before .before .switch6 .ensures, ← c .before .before .before .before .before .before .before .switch7 .ensures, ← c .before .before .before .before .before .before .cv .ensures, ← c .before .before .before .before .before .cv2 .ensures, ← c .before .before .before .before .cv3 .ensures, ← c .before .before .before .cv4 .ensures, ← c .before .before .«record» .ensures, ← c .before .record2 .ensures, ← c .record3 .ensures)
 
 pub read-spec : {M : Type 1} → statement M

@@ -111,16 +111,23 @@ fn rem_one(x: f32) -> f32
     part(x)
 }
 
+// A phase that stays between 0 and 1 needs no more than the two comparisons.
 pub fn fract(x: f32) -> f32
     ensures { λ r. ⌜ r ≡ fractOf x ⌝ }
 {
+    if (0.0 < x) & (x < 1.0) {
+        return x;
+    }
     rem_one(x) + 0.0
 }
 
-// `x.rem_euclid(1.0)`
+// `x.rem_euclid(1.0)`, likewise.
 pub fn rem_euclid_one(x: f32) -> f32
     ensures { λ r. ⌜ r ≡ remEuclidOf x k1 ⌝ }
 {
+    if (0.0 < x) & (x < 1.0) {
+        return x;
+    }
     let r = rem_one(x);
     if r < 0.0 { r + 1.0 } else { r }
 }

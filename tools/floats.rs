@@ -9,7 +9,7 @@ extern "C" {
     fn rytm_clamp(x: f32, lo: f32, hi: f32) -> f32;
     fn rytm_is_finite(x: f32) -> bool;
     fn rytm_fract(x: f32) -> f32;
-    fn rytm_rem_euclid(x: f32, y: f32) -> f32;
+    fn rytm_rem_euclid_one(x: f32) -> f32;
     fn rytm_from_u32(n: u32) -> f32;
     fn rytm_from_i32(n: i32) -> f32;
     fn rytm_to_i32(y: f32) -> i32;
@@ -59,25 +59,26 @@ impl Row {
     }
 }
 
-const UNARY: [&str; 8] = ["abs", "signum", "fract", "is_finite", "to_i32", "to24", "from_u32", "from_i32"];
+const UNARY: [&str; 9] = ["abs", "signum", "fract", "rem_euclid by 1", "is_finite", "to_i32", "to24", "from_u32", "from_i32"];
 
-fn unary(rows: &mut [Row; 8], bits: u32) {
+fn unary(rows: &mut [Row; 9], bits: u32) {
     let x = f32::from_bits(bits);
     unsafe {
         rows[0].floats(rytm_abs(x), x.abs(), &[x]);
         rows[1].floats(rytm_signum(x), x.signum(), &[x]);
         rows[2].floats(rytm_fract(x), x.fract(), &[x]);
-        rows[3].words(rytm_is_finite(x) as i64, x.is_finite() as i64, bits);
-        rows[4].words(rytm_to_i32(x) as i64, x as i32 as i64, bits);
-        rows[5].words(rytm_to24(x) as i64, to24(x) as i64, bits);
-        rows[6].floats(rytm_from_u32(bits), bits as f32, &[x]);
-        rows[7].floats(rytm_from_i32(bits as i32), bits as i32 as f32, &[x]);
+        rows[3].floats(rytm_rem_euclid_one(x), x.rem_euclid(1.0), &[x]);
+        rows[4].words(rytm_is_finite(x) as i64, x.is_finite() as i64, bits);
+        rows[5].words(rytm_to_i32(x) as i64, x as i32 as i64, bits);
+        rows[6].words(rytm_to24(x) as i64, to24(x) as i64, bits);
+        rows[7].floats(rytm_from_u32(bits), bits as f32, &[x]);
+        rows[8].floats(rytm_from_i32(bits as i32), bits as i32 as f32, &[x]);
     }
 }
 
-const BINARY: [&str; 6] = ["min", "max", "rem_euclid", "rem_euclid by 1", "clamp", "saturating_add"];
+const BINARY: [&str; 4] = ["min", "max", "clamp", "saturating_add"];
 
-fn binary(rows: &mut [Row; 6], p: u32, q: u32) {
+fn binary(rows: &mut [Row; 4], p: u32, q: u32) {
     let (a, b) = (f32::from_bits(p), f32::from_bits(q));
     unsafe {
         let open = a == 0.0 && b == 0.0 && p != q;
@@ -90,14 +91,12 @@ fn binary(rows: &mut [Row; 6], p: u32, q: u32) {
                 rows[i].floats(ours, theirs, &[a, b]);
             }
         }
-        rows[2].floats(rytm_rem_euclid(a, b), a.rem_euclid(b), &[a, b]);
-        rows[3].floats(rytm_rem_euclid(a, 1.0), a.rem_euclid(1.0), &[a]);
         if a <= b {
             for x in [a, b, -a, -b, 0.5 * a + 0.5 * b, f32::NAN, 0.0, -0.0] {
-                rows[4].floats(rytm_clamp(x, a, b), x.clamp(a, b), &[x, a, b]);
+                rows[2].floats(rytm_clamp(x, a, b), x.clamp(a, b), &[x, a, b]);
             }
         }
-        rows[5].words(rytm_saturating_add(p, q) as i64, p.saturating_add(q) as i64, p);
+        rows[3].words(rytm_saturating_add(p, q) as i64, p.saturating_add(q) as i64, p);
     }
 }
 

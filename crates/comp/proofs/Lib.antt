@@ -1,4 +1,3 @@
 -- Laws of `comp`.
 pub mod Constants
-pub mod Coefs
 pub mod Volume

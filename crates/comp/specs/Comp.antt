@@ -17,7 +17,7 @@ use Rattle.comp.specs.Tables.{attackOf, releaseOf, ratioOf, volRow}
 use Rattle.comp.specs.declared.Sc.{Sc}
 use Rattle.comp.specs.declared.Comp.{Comp}
 use Rattle.comp.specs.declared.CompOut.{CompOut}
-use Rattle.comp.specs.declared.Params.{Params}
+use Rattle.comp.specs.declared.Settings.{Settings}
 
 -- `Comp::default`
 unfoldable pub compNew : Comp
@@ -27,8 +27,8 @@ compNew = record { env = k0; sc = record { lo = k0; hi = k0 } }
 abbrev pub numberAt : List ℕ → ℕ → Float
 numberAt p o = ofInt binary32 (pos (getD p o 0))
 
-unfoldable pub readOf : List ℕ → Params
-readOf p = record {
+unfoldable pub settingsOf : List ℕ → Settings
+settingsOf p = record {
   thr = numberAt p 6;
   atk = getD p 8 0;
   rel = getD p 10 0;
@@ -124,7 +124,7 @@ gainOf dry wet mix =
 -- `Comp::process`
 unfoldable pub processOf : List ℕ → Float → Float → Comp → CompOut
 processOf p l r c =
-    let i = readOf p in
+    let i = settingsOf p in
     let x = peakOf l r in
     let s = sideOf x l r in
     let sc = sidechainOf (c .sc) s in

@@ -8,7 +8,7 @@ ghost use Rattle.float.specs.Consts.{k0p45};
 ghost use Rattle.float.specs.Ops.{_⊗_, _⊘_};
 ghost use Rattle.comp.specs.Consts.{k1000};
 ghost use Rattle.comp.specs.Tables.{attackOf, releaseOf, ratioOf, volRow};
-ghost use Rattle.comp.specs.Comp.{compNew, readOf, peakOf, sideOf, sidechainOf, detectOf, coefOf, smoothOf, followOf, levelOf, softOf, reductionOf, mupDb, makeupOf, volFirst, volTurn, volOf, dbOf, gainOf, processOf};
+ghost use Rattle.comp.specs.Comp.{compNew, settingsOf, peakOf, sideOf, poleOf, sidechainOf, detectOf, coefOf, smoothOf, followOf, levelOf, softOf, reductionOf, mupDb, makeupOf, volFirst, volTurn, volOf, dbOf, gainOf, processOf};
 
 // The sidechain's two low-passes.
 #[repr(C)]
@@ -28,28 +28,9 @@ pub struct CompOut {
     pub mix: Mix,
 }
 
-// What one sample keeps of a rising envelope: attacks of 0.03, 0.1, 0.3, 1, 3, 10 and 30 ms.
-const COMP_ATK: [f32; 7] = [
-    0.49935177,
-    0.8119364,
-    0.93291193,
-    0.97938216,
-    0.9930796,
-    0.99791884,
-    0.9993058,
-];
+const COMP_ATK_MS: [f32; 7] = [0.03, 0.1, 0.3, 1.0, 3.0, 10.0, 30.0];
 
-// And of a falling one: releases of 0.1, 0.2, 0.4, 0.6, 1, 2, 0.4 and 0.6 s, 0.45 of each.
-const COMP_REL: [f32; 8] = [
-    0.9995371,
-    0.99976856,
-    0.99988425,
-    0.9999228,
-    0.9999537,
-    0.9999768,
-    0.99988425,
-    0.9999228,
-];
+const COMP_REL_S: [f32; 8] = [0.1, 0.2, 0.4, 0.6, 1.0, 2.0, 0.4, 0.6];
 
 const COMP_RATIO: [f32; 4] = [10.0, 6.0, 3.5, 2.5];
 
@@ -108,19 +89,26 @@ const COMP_VOL: [VolRow; 9] = [
     },
 ];
 
+// What a sample keeps of the envelope, of a time in seconds.
+fn coef(t: f32) -> f32
+    ensures { λ r. ⌜ r ≡ coefOf t ⌝ }
+{
+    power::exp(-1.0 / (float::max(t, 0.00001) * float::FS))
+}
+
 // The tables, each by its parameter's byte; past the end the last. An entry is read by its number written out: an index that is not
-// known copies the array.
+// known copies the array, and of a known time the coefficient is a constant.
 fn attack(b: u8) -> f32
     ensures { λ r. ⌜ r ≡ coefOf (attackOf b ⊘ k1000) ⌝ }
 {
     match b {
-        0 => COMP_ATK[0],
-        1 => COMP_ATK[1],
-        2 => COMP_ATK[2],
-        3 => COMP_ATK[3],
-        4 => COMP_ATK[4],
-        5 => COMP_ATK[5],
-        _ => COMP_ATK[6],
+        0 => coef(COMP_ATK_MS[0] / 1000.0),
+        1 => coef(COMP_ATK_MS[1] / 1000.0),
+        2 => coef(COMP_ATK_MS[2] / 1000.0),
+        3 => coef(COMP_ATK_MS[3] / 1000.0),
+        4 => coef(COMP_ATK_MS[4] / 1000.0),
+        5 => coef(COMP_ATK_MS[5] / 1000.0),
+        _ => coef(COMP_ATK_MS[6] / 1000.0),
     }
 }
 
@@ -128,14 +116,14 @@ fn release(b: u8) -> f32
     ensures { λ r. ⌜ r ≡ coefOf (k0p45 ⊗ releaseOf b) ⌝ }
 {
     match b {
-        0 => COMP_REL[0],
-        1 => COMP_REL[1],
-        2 => COMP_REL[2],
-        3 => COMP_REL[3],
-        4 => COMP_REL[4],
-        5 => COMP_REL[5],
-        6 => COMP_REL[6],
-        _ => COMP_REL[7],
+        0 => coef(0.45 * COMP_REL_S[0]),
+        1 => coef(0.45 * COMP_REL_S[1]),
+        2 => coef(0.45 * COMP_REL_S[2]),
+        3 => coef(0.45 * COMP_REL_S[3]),
+        4 => coef(0.45 * COMP_REL_S[4]),
+        5 => coef(0.45 * COMP_REL_S[5]),
+        6 => coef(0.45 * COMP_REL_S[6]),
+        _ => coef(0.45 * COMP_REL_S[7]),
     }
 }
 
@@ -168,8 +156,8 @@ fn vol_row(i: usize) -> VolRow
 
 // ---- parameters
 
-// The compressor's parameters: of each 8.8 word the whole part.
-pub struct Params {
+// What the compressor reads off the FX parameters: of each 8.8 word the whole part.
+pub struct Settings {
     pub thr: f32,
     pub atk: u8,
     pub rel: u8,
@@ -180,19 +168,21 @@ pub struct Params {
     pub vol: f32,
 }
 
-fn read(p: &[u8]) -> Params
-    requires { ⌜ 24 ≤ length (now p) ⌝ }
-    ensures { λ r. ⌜ r ≡ readOf (now (p .entry)) ⌝ }
-{
-    Params {
-        thr: p[6] as f32,
-        atk: p[8],
-        rel: p[10],
-        rat: p[12],
-        seq: p[14],
-        mup: p[16] as f32,
-        mix: p[18] as f32,
-        vol: p[20] as f32,
+impl Settings {
+    fn read(p: &[u8]) -> Settings
+        requires { ⌜ 24 ≤ length (now p) ⌝ }
+        ensures { λ r. ⌜ r ≡ settingsOf (now (p .entry)) ⌝ }
+    {
+        Settings {
+            thr: p[6] as f32,
+            atk: p[8],
+            rel: p[10],
+            rat: p[12],
+            seq: p[14],
+            mup: p[16] as f32,
+            mix: p[18] as f32,
+            vol: p[20] as f32,
+        }
     }
 }
 
@@ -211,13 +201,22 @@ fn side(x: f32, l: f32, r: f32) -> f32
     x * float::max(float::signum(l), float::signum(r))
 }
 
-// The low-passes at 400 and 2500 Hz: 1 - exp(-2π × hz / 48000) of the way in each sample.
+// A one-pole low-pass: how far a sample moves it.
+fn pole(hz: f32) -> f32
+    ensures { λ r. ⌜ r ≡ poleOf hz ⌝ }
+{
+    1.0 - power::exp(-float::TAU * hz / float::FS)
+}
+
+// The low-passes at 400 and 2500 Hz.
 fn sidechain(sc: Sc, s: f32) -> Sc
     ensures { λ r. ⌜ r ≡ sidechainOf sc s ⌝ }
 {
+    let a_lo = pole(400.0);
+    let a_hi = pole(2500.0);
     Sc {
-        lo: sc.lo + 0.051012695 * (s - sc.lo),
-        hi: sc.hi + 0.27909595 * (s - sc.hi),
+        lo: sc.lo + a_lo * (s - sc.lo),
+        hi: sc.hi + a_hi * (s - sc.hi),
     }
 }
 
@@ -361,7 +360,7 @@ impl Comp {
         requires { ⌜ 24 ≤ length (now p) ⌝ }
         ensures { λ r'. ⌜ r' ≡ processOf (now (p .entry)) l r self ⌝ }
     {
-        let i = read(p);
+        let i = Settings::read(p);
         let x = peak(l, r);
         let s = side(x, l, r);
         let was = self.sc;

@@ -10,9 +10,9 @@ use lib.Pow.{pow-pos, pow-add, pow-mono, shl-exact, shl-lt}
 use lib.Ieee.{binary32, fits}
 use lib.Ieee.Bits.{ofBits-fits}
 use lib.Ieee.Exact.{HasValue}
-use Rattle.series.specs.Near.{Within}
+use Rattle.series.specs.Near.{Relative}
 use Rattle.series.proofs.Algebra.{ac}
-use Rattle.series.proofs.Nearness.{within-value}
+use Rattle.series.proofs.Nearness.{relative-value}
 use Rattle.fixed.specs.Fixed.{packOf}
 use Rattle.fixed.proofs.Fields.{pattern-carry}
 
@@ -67,9 +67,9 @@ module _ (q k : ℕ) (fit : q < 18446744073709551616) (qp : 0 < q) (kl : k ≤ 1
   unfolding packOf
   pack-value = pattern-carry (189 - z - k) m (omega arith) m-lo m-hi
 
-  pub packed : Within 16777216 q (2 ^ k) (packOf q k)
+  pub packed : Relative 16777216 q (2 ^ k) (packOf q k)
   packed =
-      within-value 16777216 q (2 ^ k) (m * 2 ^ (189 - z - k)) (2 ^ 149) (packOf q k) (pow-pos 149)
+      relative-value 16777216 q (2 ^ k) (m * 2 ^ (189 - z - k)) (2 ^ 149) (packOf q k) (pow-pos 149)
       pack-value
       (low 16777215 16777216 q m (2 ^ (189 - z - k)) (2 ^ k) (2 ^ z) 1099511627776 (2 ^ 149) (pow-pos z) powers (omega (arith, top-lo)))
       (high 16777217 16777216 q m (2 ^ (189 - z - k)) (2 ^ k) (2 ^ z) 1099511627776 (2 ^ 149) (pow-pos z) powers (omega (arith, top-lo)))

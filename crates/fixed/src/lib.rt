@@ -2,7 +2,7 @@
 ghost use mathlib.Core.Path.{_≡_};
 ghost use Prim.Native.Nat.{_^_, _<_, _≤_};
 ghost use lib.Dec.{T};
-ghost use Rattle.series.specs.Near.{Within};
+ghost use Rattle.series.specs.Near.{Relative};
 ghost use Rattle.fixed.specs.Fixed.{small, placeAt, placeOf, sizeAt, sizeOf, packOf};
 
 // 128 ± d * 2^(x - 150) in Q32, cut: in Q56 it is whole
@@ -58,7 +58,7 @@ pub fn size(t: f32) -> u64
 pub fn pack(q: u64, k: u64) -> f32
     requires { ⌜ (0 < q) × (k ≤ 120) ⌝ }
     ensures is { λ r. ⌜ r ≡ packOf q k ⌝ }
-    ensures near { λ r. ⌜ Within (2 ^ 24) q (2 ^ k) r ⌝ }
+    ensures near { λ r. ⌜ Relative (2 ^ 24) q (2 ^ k) r ⌝ }
 {
     let z = u64::leading_zeros(q) as u64;
     let m = (((q << z) >> 39) + 1) >> 1;

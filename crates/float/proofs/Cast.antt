@@ -1,13 +1,14 @@
--- Rust's cast of a float to an i32, by its four cases: within the range, below it, from its end on, and not a number. Assumes nothing.
+-- Rust's cast of a float to an i32, by its four cases: within the range, below it, from its end on, and not a number; and an i32 that is a float exactly. Assumes nothing.
 use mathlib.Core.Path.{_≡_, refl, ap, sym, subst}
 use mathlib.Core.Bool.{Bool, true, false, cond, _&&_, _||_}
 use Prim.Native.Nat.{ℕ, _+_, _*_, _/_, _<_, _≤_, min}
 use native.Mathlib.Nat.{div-lt-iff-lt-mul, le-div-iff-mul-le, div-le-of-le-mul, mul-comm}
 use native.Mathlib.Omega.{arith}
-use lib.Dec.{T, ltb, eqb}
-use lib.IntN.{pos, negsuc, negℤ}
-use lib.Ieee.{Float, nan, inf, fin, up, down, lt, le, eq, ne, toSigned}
-use lib.Ieee.Fits.{down-pos}
+use lib.Dec.{T, leb, ltb, eqb, leb→le, lt→ltb}
+use lib.IntN.{ℤ, pos, negsuc, negℤ}
+use lib.Signed.{leZ}
+use lib.Ieee.{Float, binary32, nan, inf, fin, up, down, lt, le, eq, ne, inFloat, toSigned}
+use lib.Ieee.Fits.{down-pos, and-l}
 use lib.Ieee.Compare.{differs-from-itself}
 use borrow.Author.Tests.{ltb-true, ltb-false, lt-ltb, eqb-true}
 
@@ -114,3 +115,11 @@ over (fin false m e) h k =
 pub none : (y : Float) → ne y y ≡ true → pos 0 ≡ toSigned 31 y
 unfolding toSigned
 none y h = rw (differs-from-itself y (yes _ h))
+
+-- a whole number from -2^24 to 2^24 loses nothing
+pub in-float : (z : ℤ) → (leZ (negsuc 16777215) z && leZ z (pos 16777216)) ≡ true → T (inFloat binary32 z)
+unfolding inFloat
+in-float (pos n) h = yes _ h
+in-float (negsuc n) h =
+    let k = leb→le n 16777215 (and-l (leb n 16777215) true (yes _ h)) in
+    lt→ltb n 16777216 (omega arith)

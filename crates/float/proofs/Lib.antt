@@ -4,4 +4,4 @@ pub mod Signs
 pub mod Cast
 pub mod Eval
 pub mod Laws
-pub mod Small
+pub mod Remainder

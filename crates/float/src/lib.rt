@@ -1,11 +1,11 @@
 // Rust's functions on f32 as the source uses them, and its casts. Each gives what Rust gives for every argument.
 ghost use mathlib.Core.Path.{_≡_};
-ghost use mathlib.Core.Bool.{Bool, cond};
+ghost use mathlib.Core.Bool.{Bool, false, cond};
 ghost use Prim.Native.Nat.{_+_, _-_, _^_, min};
 ghost use lib.IntN.{pos};
-ghost use lib.Ieee.{binary32, ofInt, toSigned};
+ghost use lib.Ieee.{binary32, rem, lt, ofInt, toSigned};
 ghost use lib.Ieee.Scale.{finite};
-ghost use Rattle.float.specs.Consts.{k1};
+ghost use Rattle.float.specs.Consts.{k0, k1};
 ghost use Rattle.float.specs.Floats.{absOf, signumOf, minOf, maxOf, clampOf, fractOf, remEuclidOf, to24Of};
 
 // The sample rate.
@@ -88,21 +88,41 @@ pub fn is_finite(x: f32) -> bool
     x - x == 0.0
 }
 
-// Between 0 and 1 it is the number itself, without a call of C's `fmodf`.
+// The whole part of an x below 2^23 is an i32, and taking it off is exact; from there on every float is whole, and an infinity has no remainder.
+fn part(x: f32) -> f32
+    requires { ⌜ lt x k0 ≡ false ⌝ }
+    ensures { λ r. ⌜ r ≡ rem binary32 x k1 ⌝ }
+{
+    if x < 1.0 {
+        return x;
+    }
+    if x < 2.0 {
+        return x - 1.0;
+    }
+    if x < 8388608.0 {
+        return x - from_i32(to_i32(x));
+    }
+    x - x
+}
+
+// `x % 1.0`, which would be a call of C's `fmodf`: what follows the point, with x's sign.
+fn rem_one(x: f32) -> f32
+    ensures { λ r. ⌜ r ≡ rem binary32 x k1 ⌝ }
+{
+    if x < 0.0 {
+        return -part(-x);
+    }
+    part(x)
+}
+
+// A phase that stays between 0 and 1 needs no more than the two comparisons.
 pub fn fract(x: f32) -> f32
     ensures { λ r. ⌜ r ≡ fractOf x ⌝ }
 {
     if (0.0 < x) & (x < 1.0) {
-        return x + 0.0;
+        return x;
     }
-    x % 1.0 + 0.0
-}
-
-pub fn rem_euclid(x: f32, y: f32) -> f32
-    ensures { λ r. ⌜ r ≡ remEuclidOf x y ⌝ }
-{
-    let r = x % y;
-    if r < 0.0 { r + abs(y) } else { r }
+    rem_one(x) + 0.0
 }
 
 // `x.rem_euclid(1.0)`, likewise.
@@ -110,9 +130,10 @@ pub fn rem_euclid_one(x: f32) -> f32
     ensures { λ r. ⌜ r ≡ remEuclidOf x k1 ⌝ }
 {
     if (0.0 < x) & (x < 1.0) {
-        return x + 0.0;
+        return x;
     }
-    rem_euclid(x, 1.0)
+    let r = rem_one(x);
+    if r < 0.0 { r + 1.0 } else { r }
 }
 
 // One of two values, without a branch in the caller.

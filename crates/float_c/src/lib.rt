@@ -5,6 +5,7 @@ ghost use Prim.Native.Nat.{_+_, _-_, _^_, min};
 ghost use lib.IntN.{pos};
 ghost use lib.Ieee.{binary32, ofInt, toSigned};
 ghost use lib.Ieee.Scale.{finite};
+ghost use Rattle.float.specs.Consts.{k1};
 ghost use Rattle.float.specs.Floats.{absOf, signumOf, minOf, maxOf, clampOf, fractOf, remEuclidOf, to24Of};
 
 #[no_mangle]
@@ -57,10 +58,10 @@ pub extern "C" fn rytm_fract(x: f32) -> f32
 }
 
 #[no_mangle]
-pub extern "C" fn rytm_rem_euclid(x: f32, y: f32) -> f32
-    ensures { λ r. ⌜ r ≡ remEuclidOf x y ⌝ }
+pub extern "C" fn rytm_rem_euclid_one(x: f32) -> f32
+    ensures { λ r. ⌜ r ≡ remEuclidOf x k1 ⌝ }
 {
-    float::rem_euclid(x, y)
+    float::rem_euclid_one(x)
 }
 
 #[no_mangle]

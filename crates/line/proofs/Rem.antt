@@ -61,7 +61,7 @@ part-of f s m (negsuc k) a b =
     subst (λ (z : ℕ). Part f (round f s (z % 2 ^ suc k) (2 ^ suc k)) s) (sym (mul-one m))
     (part-at f s (m % 2 ^ suc k) (suc k) (mod-lt m (pow-pos (suc k))) (down-exp (suc k) (low f) b) (lt-of-le-of-lt (mod-le m (2 ^ suc k)) a))
 
-fits-parts : (f : Format) (s : Bool) (m : ℕ) (e : ℤ) → T (fits f (fin s m e)) → m < 2 ^ prec f × down e ≤ 2 ^ low f
+pub fits-parts : (f : Format) (s : Bool) (m : ℕ) (e : ℤ) → T (fits f (fin s m e)) → m < 2 ^ prec f × down e ≤ 2 ^ low f
 unfolding fits
 fits-parts f s zero (pos k) t = (pow-pos (prec f), pow-pos (low f))
 fits-parts f s zero (negsuc k) t = (pow-pos (prec f), absurd (no (2 ^ k) (pow-pos k) (sym (pow-succ' 2 k) ∙ sym (one-mul (2 ^ suc k)) ∙ eqb→eq (1 * 2 ^ suc k) 1 t)))

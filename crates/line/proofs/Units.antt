@@ -22,7 +22,7 @@ cross-ltb a b c x y l C L p q = go (ltb a b) (ltb x y) (ltb→lt a b) (nltb→le
     go true false h k i j = absurd (not-le-of-lt (mul-lt-mul-of-pos-right (h tt) L) (le-trans (le-of-eq q) (le-trans (mul-le-mul-right c (j tt)) (le-of-eq (sym p)))))
     go false true h k i j = absurd (not-le-of-lt (mul-lt-mul-of-pos-right (i tt) C) (le-trans (le-of-eq (sym q)) (le-trans (mul-le-mul-right l (k tt)) (le-of-eq p))))
 
-sub-mul : (a b c : ℕ) → (a - b) * c ≡ a * c - b * c
+pub sub-mul : (a b c : ℕ) → (a - b) * c ≡ a * c - b * c
 sub-mul a b c = mul-comm (a - b) c ∙ mul-sub c a b ∙ ap (λ (z : ℕ). z - c * b) (mul-comm c a) ∙ ap (λ (z : ℕ). a * c - z) (mul-comm c b)
 
 cross-eqb : (a b c x y l : ℕ) → 0 < c → 0 < l → a * l ≡ x * c → b * l ≡ y * c → eqb a b ≡ eqb x y

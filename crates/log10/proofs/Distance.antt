@@ -9,7 +9,7 @@ use lib.Ieee.{Float, nan, inf, fin, binary32, up, down, le, lt, eq, neg, toBits,
 use lib.Ieee.Bits.{is-true, is-false}
 use lib.Ieee.Positive.{num, den, value→cross}
 use lib.Ieee.Scale.{finite}
-use Rattle.series.specs.Near.{Within}
+use Rattle.series.specs.Near.{Relative}
 use Rattle.fixed.specs.Fixed.{shifted, signOf, withSign}
 use Rattle.fixed.proofs.Fields.{down-pos}
 use Rattle.log10.specs.Log10.{log10Two, least, partOf, placeLog, packZero, tenthOf, log10Of}
@@ -45,7 +45,7 @@ module _ (x : Float) (e t : ℕ) (k : Told x e t) (tl : t < 8388608) where
   value : num x * 2 ^ 149 ≡ (t + 8388608) * 2 ^ (e - 1) * den x
   value = value→cross x ((t + 8388608) * 2 ^ (e - 1)) (2 ^ 149) (k .value)
 
-  good : (s : Bool) (v : ℕ) (r : Float) → v ≤ 130 * P → shifted s v P ≡ (e + 1) * P + partOf t → (s ≡ true → v ≤ 20 * P) → Within (2 ^ 24) (v * log10Two / P) (2 ^ 32) r → Good x (withSign s r)
+  good : (s : Bool) (v : ℕ) (r : Float) → v ≤ 130 * P → shifted s v P ≡ (e + 1) * P + partOf t → (s ≡ true → v ≤ 20 * P) → Relative (2 ^ 24) (v * log10Two / P) (2 ^ 32) r → Good x (withSign s r)
   good s v nan vl p q h = absurd h
   good s v (inf i) vl p q h = absurd h
   good s v (fin true n i) vl p q h = absurd (true≢false (h .0))

@@ -6,7 +6,7 @@ use Prim.Native.Nat.{ℕ, zero, suc, _+_, _-_, _*_, _/_, _^_, _≤_, _<_}
 use native.Mathlib.Nat.{le-trans, le-add-right, le-of-eq, le-of-lt, mul-assoc, mul-add, add-mul, one-mul, sub-add-cancel, mul-le-mul-right, le-of-mul-le-mul-right, div-mul-le-self, lt-div-mul-add}
 use native.Mathlib.Omega.{arith}
 use lib.Dec.{T, ltb, eqb·suc-zero, lit<, lit≤, ltb→lt, nltb→le}
-use Rattle.series.specs.Near.{Within}
+use Rattle.series.specs.Near.{Relative}
 use Rattle.series.proofs.Algebra.{ac}
 use Rattle.fixed.specs.Fixed.{shifted}
 use Rattle.fixed.proofs.Packs.{packed}
@@ -18,7 +18,7 @@ use Rattle.power.proofs.Numbers.{P, M}
 abbrev pub K : ℕ
 K = 332192809488736
 
-pub log10-rounding : (q : ℕ) → q < 18446744073709551616 → Within (2 ^ 24) q (2 ^ 32) (packZero q)
+pub log10-rounding : (q : ℕ) → q < 18446744073709551616 → Relative (2 ^ 24) q (2 ^ 32) (packZero q)
 unfolding packZero
 log10-rounding zero h = (refl, lit≤ tt, lit≤ tt)
 log10-rounding (suc q) h = rw (eqb·suc-zero q) (packed (suc q) 32 h (omega arith) (lit≤ tt))

@@ -11,8 +11,8 @@ use lib.Ieee.Bits.{is-true, is-false}
 use lib.Ieee.Fits.{and-i}
 use lib.Ieee.Positive.{num, den}
 use lib.Ieee.Exact.{HasValue}
-use Rattle.series.specs.Near.{Within}
-use Rattle.series.proofs.Nearness.{within-looser}
+use Rattle.series.specs.Near.{Relative}
+use Rattle.series.proofs.Nearness.{relative-looser}
 use Rattle.fixed.specs.Fixed.{shifted, small, signOf, placeOf, sizeOf}
 use Rattle.fixed.proofs.Fields.{down-pos}
 use Rattle.fixed.proofs.Order.{le-says, lt-says, le-not-lt, lt-not-le, lt-left, le-left, le-right, lt-le, same-number}
@@ -43,7 +43,7 @@ exp2-small (inf true) h k = h
 exp2-small (inf false) h k = k
 exp2-small (fin s m e) h k = lt→ltb (m * up e) (128 * down e) (small-of s (m * up e) (down e) (down-pos e) (exp2-lo s m e h) (exp2-hi s m e k))
 
-exp2-inside : (t : Float) → T (le exp2Low t) → T (lt t exp2High) → Within (2 ^ 20) (twoNum (signOf t) (num t) (den t)) (twoDen (signOf t) (num t) (den t)) (powerOf (placeOf t))
+exp2-inside : (t : Float) → T (le exp2Low t) → T (lt t exp2High) → Relative (2 ^ 20) (twoNum (signOf t) (num t) (den t)) (twoDen (signOf t) (num t) (den t)) (powerOf (placeOf t))
 unfolding placeOf signOf lt le eq
 exp2-inside nan h k = absurd k
 exp2-inside (inf true) h k = absurd h
@@ -76,12 +76,24 @@ pub exp2-middle : (t : Float) → T (le exp2Low t) → T (lt t exp2High) → exp
 unfolding exp2Of
 exp2-middle t h k = rw (same-number t (lt-left t exp2High k), is-false (lt t exp2Low) (le-not-lt exp2Low t h), is-false (le exp2High t) (lt-not-le t exp2High k))
 
+exp2-no-number : (t : Float) → t ≡ nan → exp2Of t ≡ nan
+unfolding exp2Of ne eq
+exp2-no-number t e = rw e
+
+exp2-low : (t : Float) → T (lt t exp2Low) → exp2Of t ≡ zeroF
+unfolding exp2Of
+exp2-low t h = rw (same-number t (lt-left t exp2Low h), is-true (lt t exp2Low) h)
+
+exp2-high : (t : Float) → T (le exp2High t) → exp2Of t ≡ inf false
+unfolding exp2Of
+exp2-high t h = rw (same-number t (le-right exp2High t h), is-false (lt t exp2Low) (above 127 (lit< tt) t h 63 (pos 1)), is-true (le exp2High t) h)
+
 pub exp2-near : (t : Float) → Exp2Near t (exp2Of t)
 exp2-near t = record {
-  no-number = λ e. unfold exp2Of ne eq in rw e;
-  low = λ h. unfold exp2Of in rw (same-number t (lt-left t exp2Low h), is-true (lt t exp2Low) h);
-  high = λ h. unfold exp2Of in rw (same-number t (le-right exp2High t h), is-false (lt t exp2Low) (above 127 (lit< tt) t h 63 (pos 1)), is-true (le exp2High t) h);
-  near = λ h k. rw (exp2-middle t h k) (within-looser 1048575 262143 (twoNum (signOf t) (num t) (den t)) (twoDen (signOf t) (num t) (den t)) (powerOf (placeOf t)) (lit< tt) (lit≤ tt) (exp2-inside t h k));
+  no-number = exp2-no-number t;
+  low = exp2-low t;
+  high = exp2-high t;
+  near = λ h k. rw (exp2-middle t h k) (relative-looser 1048575 262143 (twoNum (signOf t) (num t) (den t)) (twoDen (signOf t) (num t) (den t)) (powerOf (placeOf t)) (lit< tt) (lit≤ tt) (exp2-inside t h k));
   whole = λ h k z. rw (exp2-middle t h k) (exp2-whole t h k z);
 }
 
@@ -94,7 +106,7 @@ exp-size false m e h k = let g = le-says false m e false 0 (pos 0) k in omega (a
 nought : (a c k : ℕ) → a ≡ 0 → a * 4294967296 / c * k / 4294967296 ≡ 0
 nought a c k z = rw (z, zero-mul 4294967296, zero-div c, zero-mul k) refl
 
-exp-inside : (t : Float) → T (le expLow t) → T (le t zeroF) → Within (2 ^ 20) (eNum (signOf t) (num t) (den t)) (eDen (signOf t) (num t) (den t)) (fallOf log2E t)
+exp-inside : (t : Float) → T (le expLow t) → T (le t zeroF) → Relative (2 ^ 20) (eNum (signOf t) (num t) (den t)) (eDen (signOf t) (num t) (den t)) (fallOf log2E t)
 unfolding fallOf sizeOf signOf eNum eDen lt le eq
 exp-inside nan h k = absurd k
 exp-inside (inf true) h k = absurd h
@@ -107,7 +119,7 @@ exp-inside (fin false m e) h k =
 
 pub exp-near : (t : Float) → ExpNear t (expOf t)
 exp-near t = record {
-  near = λ h k. unfold expOf in rw (is-true (le expLow t && le t zeroF) (and-i (le expLow t) (le t zeroF) h k)) (within-looser 1048575 262143 (eNum (signOf t) (num t) (den t)) (eDen (signOf t) (num t) (den t)) (fallOf log2E t) (lit< tt) (lit≤ tt) (exp-inside t h k));
+  near = λ h k. unfold expOf in rw (is-true (le expLow t && le t zeroF) (and-i (le expLow t) (le t zeroF) h k)) (relative-looser 1048575 262143 (eNum (signOf t) (num t) (den t)) (eDen (signOf t) (num t) (den t)) (fallOf log2E t) (lit< tt) (lit≤ tt) (exp-inside t h k));
   elsewhere = λ h. unfold expOf in rw (is-false (le expLow t && le t zeroF) h);
 }
 
@@ -117,11 +129,11 @@ ten-size true m e h k = let g = le-says true 37 (pos 0) true m e h in omega arit
 ten-size false m e h k = let g = le-says false m e false 37 (pos 0) k in omega arith
 
 ten-base : (s : Bool) (m : ℕ) (e : ℤ) → m * up e ≤ 37 * down e
-    → Within (2 ^ 20) (tenNum s (m * up e) (down e)) (tenDen s (m * up e) (down e)) (powerOf (shifted s (m * up e * 4294967296 / down e * log2Ten / 4294967296) 4294967296))
+    → Relative (2 ^ 20) (tenNum s (m * up e) (down e)) (tenDen s (m * up e) (down e)) (powerOf (shifted s (m * up e * 4294967296 / down e * log2Ten / 4294967296) 4294967296))
 unfolding tenNum tenDen
 ten-base s m e h = base-near 332192809488736 log2Ten 37 (lit≤ tt) (lit≤ tt) (lit≤ tt) (lit≤ tt) (lit≤ tt) (m * up e) (down e) (down-pos e) h s
 
-ten-fall : (t : Float) → T (le tenLow t) → T (le t tenHigh) → T (lt t zeroF) → Within (2 ^ 20) (tenNum (signOf t) (num t) (den t)) (tenDen (signOf t) (num t) (den t)) (fallOf log2Ten t)
+ten-fall : (t : Float) → T (le tenLow t) → T (le t tenHigh) → T (lt t zeroF) → Relative (2 ^ 20) (tenNum (signOf t) (num t) (den t)) (tenDen (signOf t) (num t) (den t)) (fallOf log2Ten t)
 unfolding fallOf sizeOf signOf lt le eq
 ten-fall nan h k l = absurd l
 ten-fall (inf true) h k l = absurd h
@@ -132,7 +144,7 @@ ten-fall (fin false m e) h k l = absurd (none (lt-says false m e false 0 (pos 0)
     none : m * up e * 1 < 0 * 1 * down e → ⊥
     none g = omega arith
 
-ten-rise : (t : Float) → T (le tenLow t) → T (le t tenHigh) → T (not (lt t zeroF)) → Within (2 ^ 20) (tenNum (signOf t) (num t) (den t)) (tenDen (signOf t) (num t) (den t)) (riseOf log2Ten t)
+ten-rise : (t : Float) → T (le tenLow t) → T (le t tenHigh) → T (not (lt t zeroF)) → Relative (2 ^ 20) (tenNum (signOf t) (num t) (den t)) (tenDen (signOf t) (num t) (den t)) (riseOf log2Ten t)
 unfolding riseOf sizeOf signOf lt le eq
 ten-rise nan h k l = absurd h
 ten-rise (inf true) h k l = absurd h
@@ -143,12 +155,12 @@ ten-rise (fin true m e) h k l =
     let z : m * up e ≡ 0 = omega arith in
     rw (nought (m * up e) (down e) log2Ten z) (rw (nought (m * up e) (down e) log2Ten z) at (ten-base true m e (ten-size true m e h k)))
 
-ten-inside : (t : Float) → T (le tenLow t) → T (le t tenHigh) → Within (2 ^ 20) (tenNum (signOf t) (num t) (den t)) (tenDen (signOf t) (num t) (den t)) (cond (lt t zeroF) (fallOf log2Ten t) (riseOf log2Ten t))
+ten-inside : (t : Float) → T (le tenLow t) → T (le t tenHigh) → Relative (2 ^ 20) (tenNum (signOf t) (num t) (den t)) (tenDen (signOf t) (num t) (den t)) (cond (lt t zeroF) (fallOf log2Ten t) (riseOf log2Ten t))
 ten-inside t h k = go (lt t zeroF) (ten-fall t h k) (ten-rise t h k)
   where
-    go : (b : Bool) → (T b → Within (2 ^ 20) (tenNum (signOf t) (num t) (den t)) (tenDen (signOf t) (num t) (den t)) (fallOf log2Ten t))
-        → (T (not b) → Within (2 ^ 20) (tenNum (signOf t) (num t) (den t)) (tenDen (signOf t) (num t) (den t)) (riseOf log2Ten t))
-        → Within (2 ^ 20) (tenNum (signOf t) (num t) (den t)) (tenDen (signOf t) (num t) (den t)) (cond b (fallOf log2Ten t) (riseOf log2Ten t))
+    go : (b : Bool) → (T b → Relative (2 ^ 20) (tenNum (signOf t) (num t) (den t)) (tenDen (signOf t) (num t) (den t)) (fallOf log2Ten t))
+        → (T (not b) → Relative (2 ^ 20) (tenNum (signOf t) (num t) (den t)) (tenDen (signOf t) (num t) (den t)) (riseOf log2Ten t))
+        → Relative (2 ^ 20) (tenNum (signOf t) (num t) (den t)) (tenDen (signOf t) (num t) (den t)) (cond b (fallOf log2Ten t) (riseOf log2Ten t))
     go true f g = f tt
     go false f g = g tt
 
@@ -164,10 +176,22 @@ ten-is t h k = ten-middle t h k ∙ go (lt t zeroF)
     go true = refl
     go false = refl
 
+ten-no-number : (t : Float) → t ≡ nan → pow10Of t ≡ nan
+unfolding pow10Of ne eq
+ten-no-number t e = rw e
+
+ten-low : (t : Float) → T (lt t tenLow) → pow10Of t ≡ zeroF
+unfolding pow10Of
+ten-low t h = rw (same-number t (lt-left t tenLow h), is-true (lt t tenLow) h)
+
+ten-high : (t : Float) → T (lt tenHigh t) → pow10Of t ≡ inf false
+unfolding pow10Of
+ten-high t h = rw (same-number t (le-right tenHigh t (lt-le tenHigh t h)), is-false (lt t tenLow) (above 37 (lit< tt) t (lt-le tenHigh t h) 37 (pos 0)), is-true (lt tenHigh t) h)
+
 pub pow10-near : (t : Float) → Pow10Near t (pow10Of t)
 pow10-near t = record {
-  no-number = λ e. unfold pow10Of ne eq in rw e;
-  low = λ h. unfold pow10Of in rw (same-number t (lt-left t tenLow h), is-true (lt t tenLow) h);
-  high = λ h. unfold pow10Of in rw (same-number t (le-right tenHigh t (lt-le tenHigh t h)), is-false (lt t tenLow) (above 37 (lit< tt) t (lt-le tenHigh t h) 37 (pos 0)), is-true (lt tenHigh t) h);
-  near = λ h k. rw (ten-middle t h k) (within-looser 1048575 16383 (tenNum (signOf t) (num t) (den t)) (tenDen (signOf t) (num t) (den t)) (cond (lt t zeroF) (fallOf log2Ten t) (riseOf log2Ten t)) (lit< tt) (lit≤ tt) (ten-inside t h k));
+  no-number = ten-no-number t;
+  low = ten-low t;
+  high = ten-high t;
+  near = λ h k. rw (ten-middle t h k) (relative-looser 1048575 16383 (tenNum (signOf t) (num t) (den t)) (tenDen (signOf t) (num t) (den t)) (cond (lt t zeroF) (fallOf log2Ten t) (riseOf log2Ten t)) (lit< tt) (lit≤ tt) (ten-inside t h k));
 }

@@ -9,7 +9,7 @@ use lib.Ieee.Bits.{ofBits-fits}
 use lib.Ieee.Fits.{and-l, and-r}
 use lib.Ieee.Positive.{num, den}
 use Rattle.series.specs.Horner.{horner}
-use Rattle.series.specs.Near.{Within}
+use Rattle.series.specs.Near.{Relative}
 use Rattle.fixed.specs.Fixed.{signOf, placeOf, sizeOf}
 use Rattle.fixed.proofs.Fields.{cond-fits}
 use Rattle.fixed.proofs.Order.{le-make, not-lt, not-le, le-left, lt-not-le}
@@ -114,7 +114,7 @@ unfolding expOf fallOf powerOf sizeOf fractionOf horner ofBits lt le eq ne fits
 exp-all h = exp-in (fin false 25 (negsuc 8)) (fin false 1 (pos 0)) h tt
 
 -- a power of ten is not negative
-plus : (b n d : ℕ) (r : Float) → Within b n d r → T (le zeroF r)
+plus : (b n d : ℕ) (r : Float) → Relative b n d r → T (le zeroF r)
 plus b n d nan h = absurd h
 plus b n d (inf s) h = absurd h
 plus b n d (fin true m e) h = absurd (true≢false (h .0))

@@ -7,9 +7,9 @@ use native.Mathlib.Nat.{le-trans, le-of-eq, le-of-lt, mul-comm, mul-assoc, add-m
 use native.Mathlib.Omega.{arith}
 use lib.Dec.{lit<, lit≤}
 use lib.Pow.{pow-pos}
-use Rattle.series.specs.Near.{Within}
+use Rattle.series.specs.Near.{Relative}
 use Rattle.series.proofs.Algebra.{ac}
-use Rattle.series.proofs.Nearness.{within-other}
+use Rattle.series.proofs.Nearness.{relative-other}
 use Rattle.fixed.specs.Fixed.{shifted}
 use Rattle.power.specs.Exact.{sumDen, twoNum, twoDen}
 use Rattle.power.specs.Power.{powerOf}
@@ -25,9 +25,9 @@ ratio s a c w d cp dl h k = reduction P w c (shifted s a c) d (lit< tt) cp h k (
 
 -- the power of w is near the two-power of ± a / c
 signed-near : (s : Bool) (a c w : ℕ) → 0 < c → a ≤ 128 * c → 2 * P ≤ w → w < 255 * P → Ratio (twoAt P w * sumDen c) (twoAt c (shifted s a c) * sumDen P)
-    → Within (2 ^ 20) (twoNum s a c) (twoDen s a c) (powerOf w)
+    → Relative (2 ^ 20) (twoNum s a c) (twoDen s a c) (powerOf w)
 signed-near s a c w cp al lo hi r =
-    within-other 1048576 (twoAt c (shifted s a c)) (2 ^ 128 * sumDen c) (twoNum s a c) (twoDen s a c) (powerOf w) (mul-pos {m = 2 ^ 128} (pow-pos 128) (sum-den-pos c cp)) (sym (two-shifted s a c cp al))
+    relative-other 1048576 (twoAt c (shifted s a c)) (2 ^ 128 * sumDen c) (twoNum s a c) (twoDen s a c) (powerOf w) (mul-pos {m = 2 ^ 128} (pow-pos 128) (sum-den-pos c cp)) (sym (two-shifted s a c cp al))
     (power-near w c (shifted s a c) lo hi r)
 
 -- ---- the product with a base's logarithm, with every number a variable: v is a / c, k is K / M and u is their product, all of scale Q and cut
@@ -101,7 +101,7 @@ module _ (K k B : ℕ) (kl : k * M ≤ K * P) (kh : K * P ≤ (k + 1) * M) (K4 :
         (shift-over s u (a * K) (c * M) (1 + B + 4) P base-le base-ge)
         (shift-under s u (a * K) (c * M) (1 + B + 4) P base-le base-ge)
 
-    pub base-near : (s : Bool) → Within (2 ^ 20) (twoNum s (a * K) (c * M)) (twoDen s (a * K) (c * M)) (powerOf (shifted s (a * P / c * k / P) P))
+    pub base-near : (s : Bool) → Relative (2 ^ 20) (twoNum s (a * K) (c * M)) (twoDen s (a * K) (c * M)) (powerOf (shifted s (a * P / c * k / P) P))
     base-near s =
         let u = a * P / c * k / P in
         signed-near s (a * K) (c * M) (shifted s u P) (mul-pos cp (lit< tt)) size-small (place-lo s u product-small) (place-hi s u product-small) (base-reduction s)
@@ -121,5 +121,5 @@ module _ (s : Bool) (a c : ℕ) (cp : 0 < c) (lo : 2 * c ≤ shifted s a c) (hi 
   pub exp2-reduction : (c * (shifted s a c * P / c) ≤ P * shifted s a c + c * 1) × (P * shifted s a c ≤ c * (shifted s a c * P / c) + c * 1)
   exp2-reduction = (omega (arith, div-mul-le-self (shifted s a c * P) c, mul-comm c (shifted s a c * P / c)), omega (arith, lt-div-mul-add {a = shifted s a c * P} cp, mul-comm c (shifted s a c * P / c)))
 
-  pub spot-near : Within (2 ^ 20) (twoNum s a c) (twoDen s a c) (powerOf (shifted s a c * P / c))
+  pub spot-near : Relative (2 ^ 20) (twoNum s a c) (twoDen s a c) (powerOf (shifted s a c * P / c))
   spot-near = signed-near s a c (shifted s a c * P / c) cp (small s lo hi) spot-lo spot-hi (ratio s a c (shifted s a c * P / c) 1 cp (lit≤ tt) (exp2-reduction .0) (exp2-reduction .1))

@@ -9,9 +9,9 @@ use lib.Dec.{lit<, lit≤}
 use lib.Pow.{pow-pos, pow-add}
 use lib.Ieee.{binary32, ofBits}
 use lib.Ieee.Exact.{HasValue}
-use Rattle.series.specs.Near.{Within}
+use Rattle.series.specs.Near.{Relative}
 use Rattle.series.proofs.Algebra.{ac, loosen}
-use Rattle.series.proofs.Nearness.{within-value}
+use Rattle.series.proofs.Nearness.{relative-value}
 use Rattle.fixed.proofs.Fields.{pattern-carry, value-other}
 use Rattle.power.specs.Exact.{sumNum, sumDen}
 use Rattle.power.specs.Power.{fractionOf, powerOf}
@@ -85,14 +85,14 @@ lift-over : (B b U F W q E D : ℕ) → b * (q * E * D) ≤ B * (U * W) → b * 
 lift-over B b U F W q E D k = simp ac (simp ac at (mul-le-mul-right F k))
 
 -- A / c near w of Q32: the power of w is near the two-power of A / c - 128
-pub power-near : (w c A : ℕ) → 2 * P ≤ w → w < 255 * P → Ratio (twoAt P w * sumDen c) (twoAt c A * sumDen P) → Within (2 ^ 20) (twoAt c A) (2 ^ 128 * sumDen c) (powerOf w)
+pub power-near : (w c A : ℕ) → 2 * P ≤ w → w < 255 * P → Ratio (twoAt P w * sumDen c) (twoAt c A * sumDen P) → Relative (2 ^ 20) (twoAt c A) (2 ^ 128 * sumDen c) (powerOf w)
 power-near w c A lo hi r =
     let hl = h-lt w lo hi in
     let x = h w lo hi in
     let e = E w lo hi in
     let q = digits x in
     let k = rw (whole-power w lo hi) at r in
-    within-value 1048576 (twoAt c A) (2 ^ 128 * sumDen c) (q * e) (2 ^ 150) (powerOf w) (pow-pos 150) (power-value w lo hi)
+    relative-value 1048576 (twoAt c A) (2 ^ 128 * sumDen c) (q * e) (2 ^ 150) (powerOf w) (pow-pos 150) (power-value w lo hi)
     (lift-under 1048575 1048576 (twoAt c A) (2 ^ 128) 4194304 q e (sumDen c)
     (loosen (1900000 * 33554432 * 16777216) (1900001 * 33554433 * 16777217) 1048575 1048576 (twoAt c A * 4194304) (q * e * sumDen c) (lit< tt) (lit≤ tt)
     (join-under 1900000 33554432 16777216 1900001 33554433 16777217 (twoAt c A) (sumDen P) (sumDen c) e (sumNum x P) (fractionOf x) q 512 4194304 (sum-den-pos P (lit< tt)) (lit< tt) (k .under) (power-method-under x hl) (power-rounding-under x hl))))

@@ -135,18 +135,18 @@ pub fn exp(t: f32) -> f32
     0.0 / 0.0
 }
 
-pub fn pow10(t: f32) -> f32
-    ensures is { λ r. ⌜ r ≡ pow10Of t ⌝ }
-    ensures near { λ r. ⌜ Pow10Near t r ⌝ }
+pub fn pow10(x: f32) -> f32
+    ensures is { λ r. ⌜ r ≡ pow10Of x ⌝ }
+    ensures near { λ r. ⌜ Pow10Near x r ⌝ }
 {
-    if (t >= -37.0) & (t <= 37.0) {
-        let u = product(fixed::size(t), LOG2_TEN); // Q32
-        return power(side(t < 0.0, u));
+    if (x >= -37.0) & (x <= 37.0) {
+        let u = product(fixed::size(x), LOG2_TEN); // Q32
+        return power(side(x < 0.0, u));
     }
-    if t != t {
-        return t;
+    if x != x {
+        return x;
     }
-    if t < -37.0 {
+    if x < -37.0 {
         return 0.0;
     }
     1.0 / 0.0

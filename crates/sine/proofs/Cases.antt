@@ -10,7 +10,7 @@ use lib.Ieee.{Float, nan, inf, fin, up, down, lt, le, eq, isNan}
 use lib.Ieee.Bits.{is-true, is-false}
 use lib.Ieee.Fits.{and-i, and-l, and-r, down-pos}
 use lib.Ieee.Positive.{positive, num, den}
-use Rattle.series.specs.Near.{Beside, Apart}
+use Rattle.series.specs.Near.{Absolute, Apart}
 use Rattle.fixed.specs.Fixed.{sizeOf, small}
 use Rattle.fixed.proofs.Order.{le-says, le-make, lt-says, not-lt, le-not-lt, le-left, other-off}
 use Rattle.sine.specs.Exact.{turns, lower, sineNum, sineDen}
@@ -62,7 +62,7 @@ half-size a c cp =
     halves-high : (q : ℕ) → q ≤ 2 * (q / 2) + 1
     halves-high q = omega arith
 
-wave-at : (j : ℕ) (s : Bool) (m : ℕ) (e : ℤ) → T (upTo eight (fin s m e)) → Beside 1048576 (lower (turns (m * up e) (down e) + j)) (sineNum j (m * up e) (down e)) (sineDen (down e)) (waveOf j (sizeOf (fin s m e) / 2))
+wave-at : (j : ℕ) (s : Bool) (m : ℕ) (e : ℤ) → T (upTo eight (fin s m e)) → Absolute 1048576 (lower (turns (m * up e) (down e) + j)) (sineNum j (m * up e) (down e)) (sineDen (down e)) (waveOf j (sizeOf (fin s m e) / 2))
 unfolding sizeOf
 wave-at j s m e t = let h = half-size (m * up e) (down e) (down-pos e) in wave-near (m * up e) (down e) (m * up e * 4294967296 / down e / 2) j (down-pos e) (h .0) (h .1) (omega (arith, up-to s m e eight tt t))
 
@@ -75,13 +75,13 @@ cos-near (inf false) = refl
 cos-near (fin s m e) = ((λ t. rw (is-true (upTo eight (fin s m e)) t) (wave-at 1 s m e t)), (λ n. rw (is-false (upTo eight (fin s m e)) n)))
 
 -- ---- sin
-own-beside : (s : Bool) (m : ℕ) (e : ℤ) → T (upTo eight (fin s m e)) → T (lt (fin s m e) little) → Beside 1048576 (lower (turns (m * up e) (down e) + 0)) (sineNum 0 (m * up e) (down e)) (sineDen (down e)) (fin s m e)
-own-beside s m e t l =
+own-absolute : (s : Bool) (m : ℕ) (e : ℤ) → T (upTo eight (fin s m e)) → T (lt (fin s m e) little) → Absolute 1048576 (lower (turns (m * up e) (down e) + 0)) (sineNum 0 (m * up e) (down e)) (sineDen (down e)) (fin s m e)
+own-absolute s m e t l =
     let a = m * up e in
     let c = down e in
     let h : 1024 * a ≤ c = omega (arith, under s m e little eight tt t l) in
     let o = sine-own a c (down-pos e) h in
-    subst (λ (b : Bool). Beside 1048576 b (sineNum 0 a c) (sineDen c) (fin s m e)) (sym (ap (λ (k : ℕ). lower (k + 0)) (no-turns a c (omega (arith, down-pos e))))) (go s t (o .0) (o .1))
+    subst (λ (b : Bool). Absolute 1048576 b (sineNum 0 a c) (sineDen c) (fin s m e)) (sym (ap (λ (k : ℕ). lower (k + 0)) (no-turns a c (omega (arith, down-pos e))))) (go s t (o .0) (o .1))
   where
     go : (s : Bool) → T (upTo eight (fin s m e)) → 1048576 * (m * up e * sineDen (down e)) ≤ 1048576 * (sineNum 0 (m * up e) (down e) * down e) + sineDen (down e) * down e → sineNum 0 (m * up e) (down e) * down e ≤ m * up e * sineDen (down e)
         → Apart 1048576 s false (m * up e * sineDen (down e)) (sineNum 0 (m * up e) (down e) * down e) (sineDen (down e) * down e)
@@ -98,8 +98,8 @@ sin-near (inf true) = refl
 sin-near (inf false) = refl
 sin-near (fin s m e) = ((λ t. rw (is-true (upTo eight (fin s m e)) t) (go t (lt (fin s m e) little) (λ l. l))), (λ n. rw (is-false (upTo eight (fin s m e)) n)))
   where
-    go : T (upTo eight (fin s m e)) → (b : Bool) → (T b → T (lt (fin s m e) little)) → Beside 1048576 (lower (turns (m * up e) (down e) + 0)) (sineNum 0 (m * up e) (down e)) (sineDen (down e)) (cond b (fin s m e) (waveOf 0 (sizeOf (fin s m e) / 2)))
-    go t true l = own-beside s m e t (l tt)
+    go : T (upTo eight (fin s m e)) → (b : Bool) → (T b → T (lt (fin s m e) little)) → Absolute 1048576 (lower (turns (m * up e) (down e) + 0)) (sineNum 0 (m * up e) (down e)) (sineDen (down e)) (cond b (fin s m e) (waveOf 0 (sizeOf (fin s m e) / 2)))
+    go t true l = own-absolute s m e t (l tt)
     go t false l = wave-at 0 s m e t
 
 -- ---- what the functions ask

@@ -10,7 +10,7 @@ use lib.Pow.{pow-pos, pow-add}
 use lib.Ieee.{Float, nan, inf, fin, binary32, up, down, lt, le, eq, fits, toBits}
 use lib.Ieee.Bits.{is-true, is-false}
 use lib.Ieee.Fits.{down-pos, up-pos}
-use Rattle.series.specs.Near.{Within}
+use Rattle.series.specs.Near.{Relative}
 use Rattle.series.proofs.Algebra.{ac}
 use Rattle.fixed.specs.Fixed.{sizeOf, packOf, small}
 use Rattle.fixed.proofs.Placed.{Told}
@@ -88,7 +88,7 @@ module _ (s : Bool) (m : ℕ) (e : ℤ) (h : T (fits binary32 (fin s m e))) (t :
   product-pos : 0 < d * ratioOf X
   product-pos = mul-pos {m = d} (omega arith) (lt-of-lt-of-le (lit< tt) (ratio-low X X-le))
 
-  tan-pack : Within 65536 (sineNum 0 a c) (sineNum 1 a c) (packOf (d * ratioOf X) (182 - f))
+  tan-pack : Relative 65536 (sineNum 0 a c) (sineNum 1 a c) (packOf (d * ratioOf X) (182 - f))
   tan-pack =
       tan-at a c X (down-pos e) top-is (halved .0) (halved .1) (d * ratioOf X) (2 ^ (182 - f)) (packOf (d * ratioOf X) (182 - f)) (pow-pos (182 - f))
       (packed (d * ratioOf X) (182 - f) product-lt product-pos (omega (arith, field-low)))
@@ -108,12 +108,12 @@ zero-tan s (negsuc k) h = absurd (none (eqb→eq (1 * 2 ^ suc k) 1 h))
     none : 1 * 2 ^ suc k ≡ 1 → ⊥
     none z = omega (arith, pow-pos k)
 
-own-within : (s : Bool) (m : ℕ) (e : ℤ) → T (upTo oneFive (fin s (suc m) e)) → T (lt (fin s (suc m) e) tiny) → Within 65536 (sineNum 0 (suc m * up e) (down e)) (sineNum 1 (suc m * up e) (down e)) (fin s (suc m) e)
-own-within true m e t l = absurd (none (minus-zero (suc m) e oneFive t))
+own-relative : (s : Bool) (m : ℕ) (e : ℤ) → T (upTo oneFive (fin s (suc m) e)) → T (lt (fin s (suc m) e) tiny) → Relative 65536 (sineNum 0 (suc m * up e) (down e)) (sineNum 1 (suc m * up e) (down e)) (fin s (suc m) e)
+own-relative true m e t l = absurd (none (minus-zero (suc m) e oneFive t))
   where
     none : suc m * up e ≡ 0 → ⊥
     none z = omega (arith, mul-pos {m = suc m} (omega arith) (up-pos e))
-own-within false m e t l =
+own-relative false m e t l =
     let a = suc m * up e in
     let i = half-size a (down e) (down-pos e) in
     let o = tan-own a (down e) (a * 4294967296 / down e / 2) (down-pos e) (omega (arith, under false (suc m) e tiny oneFive tt t l)) (i .0) (i .1) in
@@ -128,8 +128,8 @@ tan-near (fin s zero e) h = zero-tan s e h
 tan-near (fin s (suc m) e) h = ((λ t. rw (is-true (upTo oneFive (fin s (suc m) e)) t) (go t (lt (fin s (suc m) e) tiny) (λ l. l) (λ l. l))), (λ n. rw (is-false (upTo oneFive (fin s (suc m) e)) n)))
   where
     go : T (upTo oneFive (fin s (suc m) e)) → (b : Bool) → (T b → T (lt (fin s (suc m) e) tiny)) → (T (not b) → T (not (lt (fin s (suc m) e) tiny)))
-        → Within 65536 (sineNum 0 (suc m * up e) (down e)) (sineNum 1 (suc m * up e) (down e)) (cond b (fin s (suc m) e) (packOf ((toBits binary32 (fin s (suc m) e) % 8388608 + 8388608) * ratioOf (suc m * up e * 4294967296 / down e / 2)) (182 - toBits binary32 (fin s (suc m) e) % 2147483648 / 8388608)))
-    go t true l n = own-within s m e t (l tt)
+        → Relative 65536 (sineNum 0 (suc m * up e) (down e)) (sineNum 1 (suc m * up e) (down e)) (cond b (fin s (suc m) e) (packOf ((toBits binary32 (fin s (suc m) e) % 8388608 + 8388608) * ratioOf (suc m * up e * 4294967296 / down e / 2)) (182 - toBits binary32 (fin s (suc m) e) % 2147483648 / 8388608)))
+    go t true l n = own-relative s m e t (l tt)
     go t false l n = tan-pack s (suc m) e h t (n tt)
 
 -- ---- what the function asks

@@ -11,13 +11,13 @@ use lib.Ieee.{Float, nan, inf, fin, binary32, up, down, neg, lt, le, eq, fits}
 use lib.Ieee.Bits.{is-true, is-false, ofBits-fits}
 use lib.Ieee.Fits.{and-i, and-l, down-pos, cond-fits, nan-fits, neg-fits}
 use Rattle.line.proofs.Range.{In, in-of}
-use Rattle.series.specs.Near.{Within}
+use Rattle.series.specs.Near.{Relative}
 use Rattle.fixed.specs.Fixed.{sizeOf, packOf}
 use Rattle.fixed.proofs.Order.{le-make}
 use Rattle.fixed.proofs.Packs.{packed}
-use Rattle.sine.specs.Exact.{unit, within, lower, sineNum, sineDen}
+use Rattle.sine.specs.Exact.{unit, folded, lower, sineNum, sineDen}
 use Rattle.sine.specs.Sine.{eight, little, oneFive, tiny, upTo, quarter31, sineFix, signed, waveOf, sinOf, cosOf, tanOf}
-use Rattle.sine.proofs.Rounding.{size-high, within-le, fix-small, fix-pos}
+use Rattle.sine.proofs.Rounding.{size-high, folded-le, fix-small, fix-pos}
 use Rattle.sine.proofs.Cases.{half-size, minus-zero, up-to, under}
 use Rattle.sine.proofs.Tangent.{den-pos, sine-part, cosine-part}
 use Rattle.sine.proofs.Fields.{tan-near}
@@ -45,7 +45,7 @@ minus-in : (m : ℕ) (e : ℤ) → m * up e * 4194304 ≤ 4236247 * down e → S
 minus-in m e h = record { above = le-make true 4236247 (negsuc 21) true m e h; below = le-make true m e false 4236247 (negsuc 21) tt }
 
 -- a sine in Q63, packed
-signed-in : (s : Bool) (q : ℕ) (v : Float) → Within 16777216 q (2 ^ 63) v → 1000 * q ≤ 9297159013149614014464 → Sized (signed s v)
+signed-in : (s : Bool) (q : ℕ) (v : Float) → Relative 16777216 q (2 ^ 63) v → 1000 * q ≤ 9297159013149614014464 → Sized (signed s v)
 unfolding neg
 signed-in s q nan w h = absurd w
 signed-in s q (inf t) w h = absurd w
@@ -57,8 +57,8 @@ wave-in : (j x : ℕ) → Sized (waveOf j x)
 unfolding waveOf
 wave-in j x =
     let k = x / quarter31 + j in
-    let z = within k quarter31 (x % quarter31) in
-    let h : z ≤ quarter31 = within-le k quarter31 (x % quarter31) (le-of-lt (mod-lt x (lit< tt))) in
+    let z = folded k quarter31 (x % quarter31) in
+    let h : z ≤ quarter31 = folded-le k quarter31 (x % quarter31) (le-of-lt (mod-lt x (lit< tt))) in
     signed-in (lower k) (sineFix z) (packOf (sineFix z) 63) (packed (sineFix z) 63 (fix-small z h) (fix-pos z) (lit≤ tt)) (sine-high z h)
 
 -- a number below 2 ^ -10
@@ -100,7 +100,7 @@ cos-most x l h = cos-sized x (range eight x l h) .below
 
 wave-fits : (j x : ℕ) → T (fits binary32 (waveOf j x))
 unfolding waveOf packOf
-wave-fits j x = go (lower (x / quarter31 + j)) (packOf (sineFix (within (x / quarter31 + j) quarter31 (x % quarter31))) 63) (ofBits-fits binary32 _)
+wave-fits j x = go (lower (x / quarter31 + j)) (packOf (sineFix (folded (x / quarter31 + j) quarter31 (x % quarter31))) 63) (ofBits-fits binary32 _)
   where
     go : (s : Bool) (v : Float) → T (fits binary32 v) → T (fits binary32 (signed s v))
     go true v h = neg-fits binary32 v h
@@ -127,7 +127,7 @@ cos-in x i = in-of binary32 least most (cosOf x) tt (cos-fits x) (cos-least x (i
 abbrev pub threeOne : Float
 threeOne = fin false 6501171 (negsuc 20)
 
-not-minus : (q : ℕ) (v : Float) → Within 16777216 q (2 ^ 63) v → T (le nought v)
+not-minus : (q : ℕ) (v : Float) → Relative 16777216 q (2 ^ 63) v → T (le nought v)
 not-minus q nan w = absurd w
 not-minus q (inf s) w = absurd w
 not-minus q (fin true m e) w = absurd (true≢false (w .0))
@@ -137,8 +137,8 @@ upper-half : (x : ℕ) → x < 6746518852 → T (le nought (waveOf 0 x))
 unfolding waveOf
 upper-half x h =
     let k = x / quarter31 + 0 in
-    let z = within k quarter31 (x % quarter31) in
-    let l : z ≤ quarter31 = within-le k quarter31 (x % quarter31) (le-of-lt (mod-lt x (lit< tt))) in
+    let z = folded k quarter31 (x % quarter31) in
+    let l : z ≤ quarter31 = folded-le k quarter31 (x % quarter31) (le-of-lt (mod-lt x (lit< tt))) in
     let e : lower k ≡ false = is-false (lower k) (lt→nleb 2 (k % 4) (omega arith)) in
     subst (λ (s : Bool). T (le nought (signed s (packOf (sineFix z) 63)))) (sym e) (not-minus (sineFix z) (packOf (sineFix z) 63) (packed (sineFix z) 63 (fix-small z l) (fix-pos z) (lit≤ tt)))
 
@@ -184,11 +184,11 @@ record Small (v : Float) : Type 0 where
 fifty-times : (R t n c D : ℕ) → 0 < c → 2 * n ≤ 3 * D → D ≤ 33 * c → 65536 * R * c ≤ 65537 * n * t → R ≤ 50 * t
 fifty-times R t n c D cp h k l = le-of-mul-le-mul-right {k = c} (omega (arith, mul-le-mul-right t h, mul-le-mul-right t k)) cp
 
-within-small : (n c D : ℕ) (v : Float) → 0 < c → 2 * n ≤ 3 * D → D ≤ 33 * c → Within 65536 n c v → Small v
-within-small n c D nan cp h k w = absurd w
-within-small n c D (inf s) cp h k w = absurd w
-within-small n c D (fin true m e) cp h k w = absurd (true≢false (w .0))
-within-small n c D (fin false m e) cp h k w =
+relative-small : (n c D : ℕ) (v : Float) → 0 < c → 2 * n ≤ 3 * D → D ≤ 33 * c → Relative 65536 n c v → Small v
+relative-small n c D nan cp h k w = absurd w
+relative-small n c D (inf s) cp h k w = absurd w
+relative-small n c D (fin true m e) cp h k w = absurd (true≢false (w .0))
+relative-small n c D (fin false m e) cp h k w =
     record {
       above = le-make false 0 (pos 0) false m e (omega arith);
       below = le-make false m e false 25 (pos 1) (omega (arith, fifty-times (m * up e) (down e) n c D cp h k (w .2)));
@@ -213,7 +213,7 @@ tan-small (fin s (suc m) e) h t =
     let u : 2 * a ≤ 3 * c = omega (arith, up-to s (suc m) e oneFive tt t) in
     let sp = sine-part a c (a * 4294967296 / c / 2) (down-pos e) u (i .0) (i .1) in
     let cp = cosine-part a c (a * 4294967296 / c / 2) (down-pos e) u (i .0) (i .1) in
-    within-small (sineNum 0 a c) (sineNum 1 a c) (sineDen c) (tanOf (fin s (suc m) e)) (omega (arith, cp, below-den c (down-pos e))) sp cp (tan-near (fin s (suc m) e) h .0 t)
+    relative-small (sineNum 0 a c) (sineNum 1 a c) (sineDen c) (tanOf (fin s (suc m) e)) (omega (arith, cp, below-den c (down-pos e))) sp cp (tan-near (fin s (suc m) e) h .0 t)
   where
     below-den : (c : ℕ) → 0 < c → 0 < sineDen c
     below-den c h = mul-pos {m = unit c} (omega arith) (den-pos (unit c) (omega arith))

@@ -7,12 +7,12 @@ use native.Mathlib.Nat.{le-trans, le-of-eq, le-of-lt, mul-assoc, mul-le-mul, mul
 use native.Mathlib.Omega.{arith}
 use lib.Dec.{eqb, lit<, lit≤}
 use lib.Ieee.{Float, nan, inf, fin, up, down, neg}
-use Rattle.series.specs.Near.{Within, Apart, Beside}
+use Rattle.series.specs.Near.{Relative, Apart, Absolute}
 use Rattle.series.proofs.Algebra.{ac}
-use Rattle.series.proofs.Nearness.{beside-neg}
+use Rattle.series.proofs.Nearness.{absolute-neg}
 use Rattle.fixed.specs.Fixed.{packOf}
 use Rattle.fixed.proofs.Packs.{packed}
-use Rattle.sine.specs.Exact.{unit, quarter, turns, rest, within, lower, sincNum, sincDen, oddNum, oddDen, sineNum, sineDen}
+use Rattle.sine.specs.Exact.{unit, quarter, turns, rest, folded, lower, sincNum, sincDen, oddNum, oddDen, sineNum, sineDen}
 use Rattle.sine.specs.Sine.{quarter31, sineFix, signed, waveOf}
 use Rattle.sine.proofs.Pairs.{sinc-le}
 use Rattle.sine.proofs.Turn.{Near, sin-reduction}
@@ -41,7 +41,7 @@ W = 2 ^ 63
 abbrev E : ℕ
 E = 295 * 4294967296
 
-pub sin-rounding : (q num den : ℕ) (r : Float) → Within 16777216 q W r → q * den ≤ W * num + E * den → W * num ≤ q * den + E * den → num ≤ 2 * den → Beside 1048576 false num den r
+pub sin-rounding : (q num den : ℕ) (r : Float) → Relative 16777216 q W r → q * den ≤ W * num + E * den → W * num ≤ q * den + E * den → num ≤ 2 * den → Absolute 1048576 false num den r
 sin-rounding q num den nan w h l b = w
 sin-rounding q num den (inf s) w h l b = w
 sin-rounding q num den (fin s m e) w h l b =
@@ -50,9 +50,9 @@ sin-rounding q num den (fin s m e) w h l b =
       round-low 16777215 q (down e) (m * up e) W num den E 1048576 (lit< tt) (w .1) l b (lit≤ tt),
     )
 
-pub signed-beside : (s : Bool) (num den : ℕ) (r : Float) → Beside 1048576 false num den r → Beside 1048576 s num den (signed s r)
-signed-beside true num den r h = beside-neg 1048576 false num den r h
-signed-beside false num den r h = h
+pub signed-absolute : (s : Bool) (num den : ℕ) (r : Float) → Absolute 1048576 false num den r → Absolute 1048576 s num den (signed s r)
+signed-absolute true num den r h = absolute-neg 1048576 false num den r h
+signed-absolute false num den r h = h
 
 -- where the sign turns, both are next to nothing
 pub size-high : (b B g l p q t R W : ℕ) → 0 < b * W → b * R * W ≤ B * q * t → q ≤ p → g * B * p ≤ l * (b * W) → g * R ≤ l * t
@@ -76,18 +76,18 @@ small-apart s t R T num den h k = go s t
     go false true = omega (arith, x, y)
     go true false = omega (arith, x, y)
 
-small-beside : (s t : Bool) (q num den : ℕ) (r : Float) → Within 16777216 q W r → q ≤ 8589934593 → 1073741824 * num ≤ den → Beside 1048576 t num den (signed s r)
+small-absolute : (s t : Bool) (q num den : ℕ) (r : Float) → Relative 16777216 q W r → q ≤ 8589934593 → 1073741824 * num ≤ den → Absolute 1048576 t num den (signed s r)
 unfolding neg
-small-beside true t q num den nan w h k = w
-small-beside false t q num den nan w h k = w
-small-beside true t q num den (inf s) w h k = w
-small-beside false t q num den (inf s) w h k = w
-small-beside true t q num den (fin s m e) w h k = small-apart (not s) t (m * up e) (down e) num den (size-high 16777216 16777217 268435456 1 8589934593 q (down e) (m * up e) W (lit< tt) (w .2) h (lit≤ tt)) k
-small-beside false t q num den (fin s m e) w h k = small-apart s t (m * up e) (down e) num den (size-high 16777216 16777217 268435456 1 8589934593 q (down e) (m * up e) W (lit< tt) (w .2) h (lit≤ tt)) k
+small-absolute true t q num den nan w h k = w
+small-absolute false t q num den nan w h k = w
+small-absolute true t q num den (inf s) w h k = w
+small-absolute false t q num den (inf s) w h k = w
+small-absolute true t q num den (fin s m e) w h k = small-apart (not s) t (m * up e) (down e) num den (size-high 16777216 16777217 268435456 1 8589934593 q (down e) (m * up e) W (lit< tt) (w .2) h (lit≤ tt)) k
+small-absolute false t q num den (fin s m e) w h k = small-apart s t (m * up e) (down e) num den (size-high 16777216 16777217 268435456 1 8589934593 q (down e) (m * up e) W (lit< tt) (w .2) h (lit≤ tt)) k
 
 -- ---- the sine of x, of Q31, and j quarter turns
-pub within-le : (k q m : ℕ) → m ≤ q → within k q m ≤ q
-within-le k q m h = go (eqb (k % 2) 0)
+pub folded-le : (k q m : ℕ) → m ≤ q → folded k q m ≤ q
+folded-le k q m h = go (eqb (k % 2) 0)
   where
     go : (b : Bool) → cond b m (q - m) ≤ q
     go true = h
@@ -117,31 +117,31 @@ few z d f dp h = le-of-mul-le-mul-right {k = d} (omega arith) dp
 nothing : (f d : ℕ) → f * 2147483648 ≤ 2 * d → 1073741824 * oddNum f d ≤ oddDen d
 nothing f d h = le-trans (le-of-eq (sym (mul-assoc 1073741824 f (sincNum f d)))) (mul-le-mul (omega arith) (odd-le f d))
 
-pub wave-near : (a c x j : ℕ) → 0 < c → x * c ≤ a * 2147483648 → a * 2147483648 < x * c + c → a ≤ 8 * c → Beside 1048576 (lower (turns a c + j)) (sineNum j a c) (sineDen c) (waveOf j x)
+pub wave-near : (a c x j : ℕ) → 0 < c → x * c ≤ a * 2147483648 → a * 2147483648 < x * c + c → a ≤ 8 * c → Absolute 1048576 (lower (turns a c + j)) (sineNum j a c) (sineDen c) (waveOf j x)
 unfolding waveOf
 wave-near a c x j cp lo hi h = go (sin-reduction a c x j cp lo hi h)
   where
     f : ℕ
-    f = within (turns a c + j) (quarter c) (rest a c)
+    f = folded (turns a c + j) (quarter c) (rest a c)
 
     z : ℕ
-    z = within (x / quarter31 + j) quarter31 (x % quarter31)
+    z = folded (x / quarter31 + j) quarter31 (x % quarter31)
 
     z-le : z ≤ quarter31
-    z-le = within-le (x / quarter31 + j) quarter31 (x % quarter31) (le-of-lt (mod-lt x (lit< tt)))
+    z-le = folded-le (x / quarter31 + j) quarter31 (x % quarter31) (le-of-lt (mod-lt x (lit< tt)))
 
     f-le : f ≤ 2 * unit c
-    f-le = le-trans (within-le (turns a c + j) (quarter c) (rest a c) (le-of-lt (mod-lt (a * 200000000000000) (omega arith)))) (omega arith)
+    f-le = le-trans (folded-le (turns a c + j) (quarter c) (rest a c) (le-of-lt (mod-lt (a * 200000000000000) (omega arith)))) (omega arith)
 
-    near : Within 16777216 (sineFix z) (2 ^ 63) (packOf (sineFix z) 63)
+    near : Relative 16777216 (sineFix z) (2 ^ 63) (packOf (sineFix z) 63)
     near = packed (sineFix z) 63 (fix-small z z-le) (fix-pos z) (lit≤ tt)
 
-    go : Near (unit c) f z (lower (turns a c + j)) (lower (x / quarter31 + j)) → Beside 1048576 (lower (turns a c + j)) (oddNum f (unit c)) (oddDen (unit c)) (signed (lower (x / quarter31 + j)) (packOf (sineFix z) 63))
+    go : Near (unit c) f z (lower (turns a c + j)) (lower (x / quarter31 + j)) → Absolute 1048576 (lower (turns a c + j)) (oddNum f (unit c)) (oddDen (unit c)) (signed (lower (x / quarter31 + j)) (packOf (sineFix z) 63))
     go (inl s) =
         let m = sin-method f (unit c) z (omega arith) (s .low) (s .high) f-le z-le in
         rw (s .sign)
-        (signed-beside (lower (x / quarter31 + j)) (oddNum f (unit c)) (oddDen (unit c)) (packOf (sineFix z) 63)
+        (signed-absolute (lower (x / quarter31 + j)) (oddNum f (unit c)) (oddDen (unit c)) (packOf (sineFix z) 63)
         (sin-rounding (sineFix z) (oddNum f (unit c)) (oddDen (unit c)) (packOf (sineFix z) 63) near (m .0) (m .1) (sized f (unit c) 2 f-le)))
     go (inr t) =
-        small-beside (lower (x / quarter31 + j)) (lower (turns a c + j)) (sineFix z) (oddNum f (unit c)) (oddDen (unit c)) (packOf (sineFix z) 63) near
+        small-absolute (lower (x / quarter31 + j)) (lower (turns a c + j)) (sineFix z) (oddNum f (unit c)) (oddDen (unit c)) (packOf (sineFix z) 63) near
         (fix-tiny z (few z (unit c) f (omega arith) t)) (nothing f (unit c) (omega arith))

@@ -9,7 +9,7 @@ use lib.Dec.{T, leb→le, nleb→lt}
 use lib.Ieee.{Float, nan, inf, fin, binary32, fits, isNan, neg, ofBits, toBits, nanBits}
 use lib.Ieee.Bits.{ofBits-fits, ofBits-toBits, toBits-lt, nanBits-is}
 use lib.Ieee.Fits.{neg-fits}
-use Rattle.series.specs.Near.{Within}
+use Rattle.series.specs.Near.{Relative}
 use Rattle.fixed.specs.Fixed.{packOf}
 use Rattle.fixed.proofs.Order.{on, off}
 use Rattle.sine.specs.Exact.{lower}
@@ -62,7 +62,7 @@ module _ (k m : ℕ) (e : ℤ) (h : T (fits binary32 (fin false m e))) where
         is = is-signed;
       }
 
-pub turned : (k b q d : ℕ) (v : Float) → T (fits binary32 v) → Within b q d v → Turned k v
+pub turned : (k b q d : ℕ) (v : Float) → T (fits binary32 v) → Relative b q d v → Turned k v
 turned k b q d nan h w = absurd w
 turned k b q d (inf s) h w = absurd w
 turned k b q d (fin true m e) h w = absurd (true≢false (w .0))

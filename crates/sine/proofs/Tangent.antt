@@ -9,7 +9,7 @@ use lib.Dec.{T, leb, leb→le, lit<, lit≤}
 use lib.Arith.{le-zero}
 use lib.Ieee.Fits.{and-l, and-r}
 use lib.Ieee.{Float, nan, inf, fin, up, down}
-use Rattle.series.specs.Near.{Within}
+use Rattle.series.specs.Near.{Relative}
 use Rattle.series.proofs.Algebra.{ac, loosen}
 use Rattle.sine.specs.Series.{paired}
 use Rattle.sine.specs.Exact.{unit, quarter, oddNum, oddDen, sineNum, sincNum, sincDen}
@@ -31,10 +31,10 @@ join-high b B β β' R t c P a r D N num U p h k = le-of-mul-le-mul-right {k = c
 join-low : (b B β β' R t c P a r D N num U : ℕ) → 0 < c * P * D → b * (a * r * t) ≤ B * (R * (c * P)) → β * (P * N * (c * U * D)) ≤ β' * (r * D * num) → b * β * (a * U * N * t) ≤ B * β' * (R * num)
 join-low b B β β' R t c P a r D N num U p h k = le-of-mul-le-mul-right {k = c * P * D} (simp ac (omega (arith, simp ac at (mul-le-mul-right (β' * D * num) h), simp ac at (mul-le-mul-right (b * a * t) k)))) p
 
-pub tan-rounding : (q K c P a r D N num U : ℕ) (v : Float) → 0 < K → 0 < c * P * D → Within 16777216 q K v → q * (c * P) ≡ a * r * K
+pub tan-rounding : (q K c P a r D N num U : ℕ) (v : Float) → 0 < K → 0 < c * P * D → Relative 16777216 q K v → q * (c * P) ≡ a * r * K
     → 2147483356 * 67108864 * (r * D * num) ≤ 67109160 * 2147483648 * (P * N * (c * U * D))
     → 2147483648 * 1073741824 * 67108568 * (P * N * (c * U * D)) ≤ 2147483940 * 1073741825 * 67108864 * (r * D * num)
-    → Within 65536 (a * U * N) num v
+    → Relative 65536 (a * U * N) num v
 tan-rounding q K c P a r D N num U nan kp p w e h l = w
 tan-rounding q K c P a r D N num U (inf s) kp p w e h l = w
 tan-rounding q K c P a r D N num U (fin s m i) kp p w e h l =
@@ -85,7 +85,7 @@ module _ (a c x : ℕ) (cp : 0 < c) (top : 2 * a ≤ 3 * c) (lo : x * c ≤ a * 
   abbrev D : ℕ
   D = sincDen d
 
-  pub tan-at : (q k : ℕ) (v : Float) → 0 < k → Within 16777216 q k v → q * (c * 4294967296) ≡ a * ratioOf x * k → Within 65536 (sineNum 0 a c) (sineNum 1 a c) v
+  pub tan-at : (q k : ℕ) (v : Float) → 0 < k → Relative 16777216 q k v → q * (c * 4294967296) ≡ a * ratioOf x * k → Relative 65536 (sineNum 0 a c) (sineNum 1 a c) v
   tan-at q k v kp w e =
       let t = tan-reduction in
       let m = tan-method (a * U) (quarter c - a * U) d x (omega arith) x-le (t .0 .0) (t .0 .1) (omega arith) (t .1 .0) (t .1 .1) (omega arith) in

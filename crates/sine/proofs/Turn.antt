@@ -10,7 +10,7 @@ use lib.Dec.{T, T-not, eqb, eqb→eq, leb→le, le→leb, lit<}
 use lib.Ieee.Fits.{eq→eqb}
 use Rattle.line.proofs.Bools.{bool-ext}
 use Rattle.sine.specs.Sine.{quarter31}
-use Rattle.sine.specs.Exact.{unit, quarter, turns, rest, within, lower}
+use Rattle.sine.specs.Exact.{unit, quarter, turns, rest, folded, lower}
 
 abbrev C : ℕ
 C = quarter31
@@ -64,7 +64,7 @@ module _ (d q a x k m k' m' j : ℕ) (dp : 0 < d)
       clash g = omega (arith, gaps-high, kd, xd)
 
   -- as many: both angles are what is left, or both what it lacks of a quarter
-  as-many : (n : ℕ) (s : Bool) → k ≡ k' → Near d (within n q m) (within n C m') s s
+  as-many : (n : ℕ) (s : Bool) → k ≡ k' → Near d (folded n q m) (folded n C m') s s
   as-many n s e = go (eqb (n % 2) 0)
     where
       xd' : C * (k * d) + m' * d ≡ x * d
@@ -78,7 +78,7 @@ module _ (d q a x k m k' m' j : ℕ) (dp : 0 < d)
       go false = inl (record { sign = refl; low = omega (arith, xd', gaps-low, back); high = omega (arith, xd', gaps-high, kd, back) })
 
   -- one more: of what is left next to nothing lacks of a quarter, and next to nothing is left by the program's count
-  one-more : (n : ℕ) → k' ≡ k + 1 → Near d (within n q m) (within (n + 1) C m') (lower n) (lower (n + 1))
+  one-more : (n : ℕ) → k' ≡ k + 1 → Near d (folded n q m) (folded (n + 1) C m') (lower n) (lower (n + 1))
   one-more n e = go (eqb (n % 2) 0) (eqb ((n + 1) % 2) 0) (eqb→eq (n % 2) 0) (eqb→eq ((n + 1) % 2) 0) (λ t h. T-not (eqb (n % 2) 0) t (eq→eqb h)) (λ t h. T-not (eqb ((n + 1) % 2) 0) t (eq→eqb h))
     where
       xd' : C * (k * d + d) + m' * d ≡ x * d
@@ -99,18 +99,18 @@ module _ (d q a x k m k' m' j : ℕ) (dp : 0 < d)
           odd-next : (n % 2 ≡ 0 → ⊥) → (n + 1) % 2 ≡ 0
           odd-next h = omega arith
 
-  pub reduced : Near d (within (k + j) q m) (within (k' + j) C m') (lower (k + j)) (lower (k' + j))
+  pub reduced : Near d (folded (k + j) q m) (folded (k' + j) C m') (lower (k + j)) (lower (k' + j))
   reduced = go (eq-or-lt-of-le no-fewer)
     where
-      go : (k ≡ k') ⊎ (k < k') → Near d (within (k + j) q m) (within (k' + j) C m') (lower (k + j)) (lower (k' + j))
-      go (inl e) = subst (λ (y : ℕ). Near d (within (k + j) q m) (within (y + j) C m') (lower (k + j)) (lower (y + j))) e (as-many (k + j) (lower (k + j)) e)
-      go (inr l) = let e : k' ≡ k + 1 = omega (arith, no-more) in subst (λ (y : ℕ). Near d (within (k + j) q m) (within y C m') (lower (k + j)) (lower y)) (sum e) (one-more (k + j) e)
+      go : (k ≡ k') ⊎ (k < k') → Near d (folded (k + j) q m) (folded (k' + j) C m') (lower (k + j)) (lower (k' + j))
+      go (inl e) = subst (λ (y : ℕ). Near d (folded (k + j) q m) (folded (y + j) C m') (lower (k + j)) (lower (y + j))) e (as-many (k + j) (lower (k + j)) e)
+      go (inr l) = let e : k' ≡ k + 1 = omega (arith, no-more) in subst (λ (y : ℕ). Near d (folded (k + j) q m) (folded y C m') (lower (k + j)) (lower y)) (sum e) (one-more (k + j) e)
         where
           sum : k' ≡ k + 1 → k + j + 1 ≡ k' + j
           sum e = omega arith
 
 -- of x = a / c up to 8, in Q31
-pub sin-reduction : (a c x j : ℕ) → 0 < c → x * c ≤ a * Q → a * Q < x * c + c → a ≤ 8 * c → Near (unit c) (within (turns a c + j) (quarter c) (rest a c)) (within (x / C + j) C (x % C)) (lower (turns a c + j)) (lower (x / C + j))
+pub sin-reduction : (a c x j : ℕ) → 0 < c → x * c ≤ a * Q → a * Q < x * c + c → a ≤ 8 * c → Near (unit c) (folded (turns a c + j) (quarter c) (rest a c)) (folded (x / C + j) C (x % C)) (lower (turns a c + j)) (lower (x / C + j))
 sin-reduction a c x j cp lo hi h =
     let q = quarter c in
     let A = a * 200000000000000 in

@@ -20,8 +20,8 @@ abbrev pub rest : ℕ → ℕ → ℕ
 rest a c = a * 200000000000000 % quarter c
 
 -- Whole turns drop out, and by symmetry an angle within a quarter turn is left: of k quarter turns, each of size q, and m more it is m or q - m, with a minus sign in the lower half of the circle.
-abbrev pub within : ℕ → ℕ → ℕ → ℕ
-within k q m = cond (eqb (k % 2) 0) m (q - m)
+abbrev pub folded : ℕ → ℕ → ℕ → ℕ
+folded k q m = cond (eqb (k % 2) 0) m (q - m)
 
 abbrev pub lower : ℕ → Bool
 lower k = leb 2 (k % 4)
@@ -46,7 +46,7 @@ oddDen d = d * sincDen d
 
 -- The sine of x and j quarter turns; its sign is lower (turns a c + j). The cosine is the sine a quarter turn on, so at j = 1.
 abbrev pub sineNum : ℕ → ℕ → ℕ → ℕ
-sineNum j a c = oddNum (within (turns a c + j) (quarter c) (rest a c)) (unit c)
+sineNum j a c = oddNum (folded (turns a c + j) (quarter c) (rest a c)) (unit c)
 
 abbrev pub sineDen : ℕ → ℕ
 sineDen c = oddDen (unit c)

@@ -6,10 +6,10 @@ use Prim.Native.Nat.{ℕ, zero, suc, _+_, _-_, _*_, _/_, _%_, _^_}
 use lib.IntN.{pos, negsuc}
 use lib.Dec.{T}
 use lib.Ieee.{Float, nan, inf, fin, binary32, up, down, neg, lt, le, toBits}
-use Rattle.series.specs.Near.{Within, Beside}
+use Rattle.series.specs.Near.{Relative, Absolute}
 use Rattle.fixed.specs.Fixed.{sizeOf, packOf}
 use Rattle.sine.specs.Series.{paired}
-use Rattle.sine.specs.Exact.{turns, within, lower, sineNum, sineDen}
+use Rattle.sine.specs.Exact.{turns, folded, lower, sineNum, sineDen}
 
 -- ---- how they are computed
 
@@ -54,7 +54,7 @@ signed false r = r
 -- the sine of x, of Q31, and j quarter turns
 unfoldable pub waveOf : ℕ → ℕ → Float
 unfolding sineFix
-waveOf j x = let k = x / quarter31 + j in signed (lower k) (packOf (sineFix (within k quarter31 (x % quarter31))) 63)
+waveOf j x = let k = x / quarter31 + j in signed (lower k) (packOf (sineFix (folded k quarter31 (x % quarter31))) 63)
 
 -- a number below 2 ^ -10 is its own sine
 unfoldable pub sinOf : Float → Float
@@ -85,7 +85,7 @@ abbrev pub Sine : ℕ → Float → Float → Type 0
 Sine j nan r = r ≡ nan
 Sine j (inf s) r = r ≡ nan
 Sine j (fin s m e) r =
-    (T (upTo eight (fin s m e)) → Beside (2 ^ 20) (lower (turns (m * up e) (down e) + j)) (sineNum j (m * up e) (down e)) (sineDen (down e)) r)
+    (T (upTo eight (fin s m e)) → Absolute (2 ^ 20) (lower (turns (m * up e) (down e) + j)) (sineNum j (m * up e) (down e)) (sineDen (down e)) r)
     × (T (not (upTo eight (fin s m e))) → r ≡ nan)
 
 -- r is the exact sine over the exact cosine of x, to one part in 2 ^ 16, for x from 0 to 1.5, where neither has a minus sign and both have the same denominator; a zero is its own tangent; for any other x it is not a number
@@ -94,5 +94,5 @@ Tangent nan r = r ≡ nan
 Tangent (inf s) r = r ≡ nan
 Tangent (fin s zero e) r = r ≡ fin s zero e
 Tangent (fin s (suc m) e) r =
-    (T (upTo oneFive (fin s (suc m) e)) → Within (2 ^ 16) (sineNum 0 (suc m * up e) (down e)) (sineNum 1 (suc m * up e) (down e)) r)
+    (T (upTo oneFive (fin s (suc m) e)) → Relative (2 ^ 16) (sineNum 0 (suc m * up e) (down e)) (sineNum 1 (suc m * up e) (down e)) r)
     × (T (not (upTo oneFive (fin s (suc m) e))) → r ≡ nan)

@@ -5,10 +5,13 @@ ghost use Prim.Native.Nat.{_+_, _-_, _*_, _/_, _^_, _<_, _≤_};
 ghost use lib.Dec.{T};
 ghost use lib.Ieee.{lt};
 ghost use Rattle.fixed.specs.Fixed.{sizeOf};
-ghost use Rattle.sine.specs.Exact.{within};
+ghost use Rattle.sine.specs.Exact.{folded};
 ghost use Rattle.sine.specs.Sine.{eight, little, upTo, sincOf, sineFix, waveOf, ratioOf, sinOf, cosOf, tanOf, Sine, Tangent, quarter31};
 use fixed::pack;
 use fixed::size;
+
+// A quarter turn in Q31.
+const QUARTER_TURN: u64 = 3373259426;
 
 // b - c v in Q32.
 fn step(b: u64, c: u64, v: u64) -> u64
@@ -39,14 +42,14 @@ fn sine_fix(z: u64) -> u64
 }
 
 // The angle within a quarter turn.
-fn within(k: u64, m: u64) -> u64
+fn fold(k: u64, m: u64) -> u64
     requires { ⌜ m ≤ quarter31 ⌝ }
-    ensures { λ r. ⌜ (r ≡ within k quarter31 m) × (r ≤ quarter31) ⌝ }
+    ensures { λ r. ⌜ (r ≡ folded k quarter31 m) × (r ≤ quarter31) ⌝ }
 {
     if k % 2 == 0 {
         return m;
     }
-    3373259426 - m
+    QUARTER_TURN - m
 }
 
 // The sine of x in Q31 and j quarter turns.
@@ -54,9 +57,9 @@ fn wave(x: u64, j: u64) -> f32
     requires { ⌜ j ≤ 1 ⌝ }
     ensures { λ r. ⌜ r ≡ waveOf j x ⌝ }
 {
-    let n = x / 3373259426;
+    let n = x / QUARTER_TURN;
     let k = n + j;
-    let z = within(k, x - n * 3373259426); // Q31
+    let z = fold(k, x - n * QUARTER_TURN); // Q31
     let q = sine_fix(z); // Q63
     let r = pack(q, 63);
     let sign = (k % 4 / 2) as u32;
@@ -105,7 +108,7 @@ fn ratio(z: u64) -> u64
     ensures { λ r. ⌜ (r ≡ ratioOf z) × (0 < r) × (r ≤ 137438953472) ⌝ }
 {
     let y = sinc(z * z / 4294967296); // Q32
-    let c = sine_fix(3373259426 - z) / 4294967296; // Q31
+    let c = sine_fix(QUARTER_TURN - z) / 4294967296; // Q31
     y * 2147483648 / c
 }
 

@@ -6,7 +6,7 @@ use native.Mathlib.Nat.{le-trans, le-of-lt, lt-of-le-of-lt, lt-of-mul-lt-mul-rig
 use native.Mathlib.Omega.{arith}
 use lib.IntN.{ℤ}
 use lib.Ieee.{fin, up, down}
-use Rattle.series.specs.Near.{Within}
+use Rattle.series.specs.Near.{Relative}
 use Rattle.power.specs.Exact.{twoNum, twoDen}
 use Rattle.power.proofs.Numbers.{M}
 use Rattle.tanh.specs.Tanh.{twoLog2E, decayOf, quotientOf}
@@ -77,7 +77,7 @@ module _ (s : Bool) (a c : ℕ) (cp : 0 < c) where
     unfolding quotientOf
     q-lo = le-div-iff-mul-le {k = P + e} (omega arith) .1 (omega (arith, e-hi))
 
-    pub between-case : (m : ℕ) (i : ℤ) → Within (2 ^ 24) q (2 ^ 31) (fin false m i) → Close X Y (m * up i) (down i)
+    pub between-case : (m : ℕ) (i : ℤ) → Relative (2 ^ 24) q (2 ^ 31) (fin false m i) → Close X Y (m * up i) (down i)
     between-case m i h =
         let k = tanh-reduction s a c cp hi u-hi in
         let el : e ≤ P = omega (arith, e-hi) in

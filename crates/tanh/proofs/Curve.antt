@@ -11,7 +11,7 @@ use lib.Pow.{pow-pos}
 use lib.Ieee.{Float, nan, inf, fin, up, down, lt, le, ne, eq, neg, isNan}
 use lib.Ieee.Positive.{num, den}
 use lib.Ieee.Scale.{finite}
-use Rattle.series.specs.Near.{Within, Beside}
+use Rattle.series.specs.Near.{Relative, Absolute}
 use Rattle.fixed.specs.Fixed.{signOf, withSign, sizeOf, packOf}
 use Rattle.fixed.proofs.Fields.{down-pos}
 use Rattle.fixed.proofs.Order.{lt-says, le-says, not-lt, not-le}
@@ -34,7 +34,7 @@ module _ (s : Bool) (m : ℕ) (e : ℤ) where
   c = down e
 
   abbrev Near : Float → Type 0
-  Near r = Beside (2 ^ 18) (tanhMinus s a c) (tanhNum s a c) (tanhDen s a c) (withSign s r)
+  Near r = Absolute (2 ^ 18) (tanhMinus s a c) (tanhNum s a c) (tanhDen s a c) (withSign s r)
 
   doubled : 2 * (m * up e) * 144269504088896 ≡ m * up e * K
   doubled = omega arith
@@ -44,7 +44,7 @@ module _ (s : Bool) (m : ℕ) (e : ℤ) where
   near-close n i k =
       rw doubled (signed s (twoNum s (a * K) (c * M)) (twoDen s (a * K) (c * M)) n i (lesser-le s (a * K) (c * M) (mul-pos (down-pos e) (lit< tt))) k)
 
-  packed-near : (lo : c ≤ 1024 * a) (hi : a ≤ 10 * c) (r : Float) → Within (2 ^ 24) (q s a c (down-pos e) lo hi) (2 ^ 31) r → Near r
+  packed-near : (lo : c ≤ 1024 * a) (hi : a ≤ 10 * c) (r : Float) → Relative (2 ^ 24) (q s a c (down-pos e) lo hi) (2 ^ 31) r → Near r
   packed-near lo hi nan h = absurd h
   packed-near lo hi (inf t) h = absurd h
   packed-near lo hi (fin true n i) h = absurd (true≢false (h .0))
@@ -85,18 +85,18 @@ module _ (s : Bool) (m : ℕ) (e : ℤ) where
           )
 
 -- ---- every argument
-finite-near : (x : Float) → T (finite x) → Beside (2 ^ 18) (tanhMinus (signOf x) (num x) (den x)) (tanhNum (signOf x) (num x) (den x)) (tanhDen (signOf x) (num x) (den x)) (tanhOf x)
+finite-near : (x : Float) → T (finite x) → Absolute (2 ^ 18) (tanhMinus (signOf x) (num x) (den x)) (tanhNum (signOf x) (num x) (den x)) (tanhDen (signOf x) (num x) (den x)) (tanhOf x)
 unfolding signOf
 finite-near nan h = absurd h
 finite-near (inf s) h = absurd h
 finite-near (fin s m e) h = rw (tanh-is s m e) (above-good s m e .0)
 
-pub tanh-within : (x : Float) → T (not (isNan x)) → T (le (fin true 1 (pos 0)) (tanhOf x)) × T (le (tanhOf x) one)
+pub tanh-bounded : (x : Float) → T (not (isNan x)) → T (le (fin true 1 (pos 0)) (tanhOf x)) × T (le (tanhOf x) one)
 unfolding isNan
-tanh-within nan h = absurd h
-tanh-within (inf true) h = unfold tanhOf aboveOf neg ne eq lt le in (tt, tt)
-tanh-within (inf false) h = unfold tanhOf aboveOf neg ne eq lt le in (tt, tt)
-tanh-within (fin s m e) h = rw (tanh-is s m e) (above-good s m e .1)
+tanh-bounded nan h = absurd h
+tanh-bounded (inf true) h = unfold tanhOf aboveOf neg ne eq lt le in (tt, tt)
+tanh-bounded (inf false) h = unfold tanhOf aboveOf neg ne eq lt le in (tt, tt)
+tanh-bounded (fin s m e) h = rw (tanh-is s m e) (above-good s m e .1)
 
 at-infinity : (s : Bool) → tanhOf (inf s) ≡ fin s 1 (pos 0)
 at-infinity true = unfold tanhOf aboveOf neg ne eq lt le in refl
@@ -108,5 +108,5 @@ tanh-near x = record {
   infinite = λ s e. rw e (at-infinity s);
   near = finite-near x;
   odd = tanh-odd x;
-  within = tanh-within x;
+  bounded = tanh-bounded x;
 }

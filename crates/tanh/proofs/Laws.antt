@@ -10,7 +10,7 @@ use Rattle.fixed.proofs.Packs.{pack-fits}
 use Rattle.line.proofs.Range.{In, in-of}
 use Rattle.power.specs.Power.{zeroF, productOf}
 use Rattle.tanh.specs.Tanh.{twoLog2E, decayOf, quotientOf, one, tiny, ten, aboveOf, tanhOf}
-use Rattle.tanh.proofs.Curve.{tanh-within}
+use Rattle.tanh.proofs.Curve.{tanh-bounded}
 
 above-fits : (a : Float) → T (fits binary32 a) → T (fits binary32 (aboveOf a))
 unfolding aboveOf fits
@@ -21,4 +21,4 @@ unfolding tanhOf fits
 tanh-fits x h = cond-fits (ne x x) nan _ tt (cond-fits (lt x zeroF) (neg (aboveOf (neg x))) _ (neg-fits binary32 (aboveOf (neg x)) (above-fits (neg x) (neg-fits binary32 x h))) (above-fits x h))
 
 pub tanh-in : (x : Float) → T (fits binary32 x) → T (not (isNan x)) → In binary32 (fin true 1 (pos 0)) (fin false 1 (pos 0)) (tanhOf x)
-tanh-in x h n = in-of binary32 (fin true 1 (pos 0)) (fin false 1 (pos 0)) (tanhOf x) (unfold fits in tt) (tanh-fits x h) (tanh-within x n .0) (tanh-within x n .1)
+tanh-in x h n = in-of binary32 (fin true 1 (pos 0)) (fin false 1 (pos 0)) (tanhOf x) (unfold fits in tt) (tanh-fits x h) (tanh-bounded x n .0) (tanh-bounded x n .1)

@@ -12,7 +12,7 @@ use lib.Pow.{pow-pos}
 use lib.Ieee.{Float, nan, inf, fin, up, down, lt, le, ne, eq, neg, isNan}
 use lib.Ieee.Bits.{is-true, is-false}
 use lib.Ieee.Exact.{HasValue}
-use Rattle.series.specs.Near.{Beside}
+use Rattle.series.specs.Near.{Absolute}
 use Rattle.fixed.specs.Fixed.{withSign}
 use Rattle.fixed.proofs.Fields.{down-pos}
 use Rattle.fixed.proofs.Order.{le-make, same-number}
@@ -26,7 +26,7 @@ pub record Close (X Y x w : ℕ) : Type 0 where
   pub under : (B Z : ℕ) → B + X ≡ Y → X + Y ≡ Z → 262144 * (B * w) ≤ 262144 * (x * Z) + Z * w
 
 pub signed : (s : Bool) (N D m : ℕ) (e : ℤ) → lesser s N D ≤ greater s N D → Close (lesser s N D) (greater s N D) (m * up e) (down e)
-    → Beside (2 ^ 18) (ltb N D) (N - D + (D - N)) (N + D) (withSign s (fin false m e))
+    → Absolute (2 ^ 18) (ltb N D) (N - D + (D - N)) (N + D) (withSign s (fin false m e))
 signed false N D m e h k =
     let B = N - D + (D - N) in
     rw (is-false (ltb N D) (le→nltb N D h)) (k .over B (N + D) (omega arith) (add-comm D N), k .under B (N + D) (omega arith) (add-comm D N))
@@ -35,7 +35,7 @@ signed true N D m e h k = unfold neg in go (eq-or-lt-of-le h)
     flat : N ≡ D → N - D + (D - N) ≡ 0
     flat z = omega arith
 
-    go : (N ≡ D) ⊎ (N < D) → Beside (2 ^ 18) (ltb N D) (N - D + (D - N)) (N + D) (fin true m e)
+    go : (N ≡ D) ⊎ (N < D) → Absolute (2 ^ 18) (ltb N D) (N - D + (D - N)) (N + D) (fin true m e)
     go (inl z) =
         let f = k .over (N - D + (D - N)) (N + D) (omega arith) refl in
         rw (is-false (ltb N D) (le→nltb N D (omega arith))) (omega (arith, f, ap (λ (b : ℕ). b * down e) (flat z)))

@@ -7,7 +7,7 @@ use lib.IntN.{pos}
 use lib.Ieee.{Float, nan, inf, fin, le, neg, isNan}
 use lib.Ieee.Positive.{num, den}
 use lib.Ieee.Scale.{finite}
-use Rattle.series.specs.Near.{Beside}
+use Rattle.series.specs.Near.{Absolute}
 use Rattle.fixed.specs.Fixed.{signOf}
 use Rattle.tanh.specs.Exact.{tanhMinus, tanhNum, tanhDen}
 use Rattle.tanh.specs.Tanh.{one, tanhOf}
@@ -16,6 +16,6 @@ use Rattle.tanh.specs.Tanh.{one, tanhOf}
 pub record TanhNear (x r : Float) : Type 0 where
   pub no-number : x ≡ nan → r ≡ nan
   pub infinite : (s : Bool) → x ≡ inf s → r ≡ fin s 1 (pos 0)
-  pub near : T (finite x) → Beside (2 ^ 18) (tanhMinus (signOf x) (num x) (den x)) (tanhNum (signOf x) (num x) (den x)) (tanhDen (signOf x) (num x) (den x)) r
+  pub near : T (finite x) → Absolute (2 ^ 18) (tanhMinus (signOf x) (num x) (den x)) (tanhNum (signOf x) (num x) (den x)) (tanhDen (signOf x) (num x) (den x)) r
   pub odd : tanhOf (neg x) ≡ neg r
-  pub within : T (not (isNan x)) → T (le (fin true 1 (pos 0)) r) × T (le r one)
+  pub bounded : T (not (isNan x)) → T (le (fin true 1 (pos 0)) r) × T (le r one)

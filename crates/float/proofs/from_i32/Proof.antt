@@ -3,7 +3,7 @@ use mathlib.Core.Path.{ap, _∙_}
 use lib.Ieee.{binary32, ofInt}
 use mir.Syntax.{w32}
 use mir.ValLaws.{toZ-ofZ}
-use Rattle.float.proofs.Small.{in-float}
+use Rattle.float.proofs.Cast.{in-float}
 use borrow.Author.Needs.{needs}
 use Rattle.float.proofs.from_i32.Statement.{statement}
 use Rattle.float.proofs.from_i32.Tie as tie

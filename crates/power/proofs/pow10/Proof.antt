@@ -18,12 +18,12 @@ use Rattle.power.proofs.pow10.Tie as tie
 both : (t r : Float) → r ≡ pow10Of t → (r ≡ pow10Of t) × Pow10Near t r
 both t r e = (e, subst (Pow10Near t) (sym e) (pow10-near t))
 
-inside : (c : tie.Then1) → T (le tenLow (c .before .args .t)) × T (le (c .before .args .t) tenHigh)
+inside : (c : tie.Then1) → T (le tenLow (c .before .args .x)) × T (le (c .before .args .x) tenHigh)
 unfolding ofBits neg
-inside c = let t = c .before .args .t in (and-l (le tenLow t) (le t tenHigh) (on (c .if1 .taken)), and-r (le tenLow t) (le t tenHigh) (on (c .if1 .taken)))
+inside c = let t = c .before .args .x in (and-l (le tenLow t) (le t tenHigh) (on (c .if1 .taken)), and-r (le tenLow t) (le t tenHigh) (on (c .if1 .taken)))
 
-room : (c : tie.Then1) → Room (c .before .args .t) log2Ten
-room c = ten-room (c .before .args .t) (inside c .0) (inside c .1)
+room : (c : tie.Then1) → Room (c .before .args .x) log2Ten
+room c = ten-room (c .before .args .x) (inside c .0) (inside c .1)
 
 -- 128 ± u stays in the range of `power`
 between : (s : Bool) (u : ℕ) → u ≤ 541165879296 → (8589934592 ≤ shifted s u 4294967296) × (shifted s u 4294967296 < 1095216660480)
@@ -44,34 +44,34 @@ side-requires c κs = fewer c
 
 power-requires : tie.Need-power-requires
 unfolding ofBits
-power-requires c κs = rw (c .side .ensures) (between (lt (c .before .before .before .before .args .t) zeroF) (c .before .product .result) (fewer (c .before)))
+power-requires c κs = rw (c .side .ensures) (between (lt (c .before .before .before .before .args .x) zeroF) (c .before .product .result) (fewer (c .before)))
 
 returns : tie.Need-returns
 unfolding ofBits
 returns c =
     let p = c .before .before in
-    let t = p .before .before .before .args .t in
+    let t = p .before .before .before .args .x in
     let i = inside (p .before .before) in
     both t (c .power .result) (c .power .ensures ∙ rw (c .before .side .ensures, p .product .ensures, p .before .size .ensures) (sym (ten-is t (i .0) (i .1))))
 
 returns-2 : tie.Need-returns-2
-returns-2 c = let t = c .before .before .args .t in let e = no-number t (c .if2 .taken) in both t t (e ∙ sym (pow10-near t .no-number e))
+returns-2 c = let t = c .before .before .args .x in let e = no-number t (c .if2 .taken) in both t t (e ∙ sym (pow10-near t .no-number e))
 
 returns-3 : tie.Need-returns-3
 unfolding ofBits neg
-returns-3 c = let t = c .before .before .before .args .t in both t _ (sym (pow10-near t .low (on (c .if3 .taken))))
+returns-3 c = let t = c .before .before .before .args .x in both t _ (sym (pow10-near t .low (on (c .if3 .taken))))
 
 -- a number outside, and not below, is above
-beyond : (c : tie.Else3) → T (lt tenHigh (c .before .before .before .args .t))
+beyond : (c : tie.Else3) → T (lt tenHigh (c .before .before .before .args .x))
 unfolding ofBits neg
 beyond c =
-    let t = c .before .before .before .args .t in
+    let t = c .before .before .before .args .x in
     let n = a-number t (c .before .if2 .left) in
     not-le t tenHigh n (unfold isNan in tt) (other-off (le tenLow t) (le t tenHigh) (off (c .before .before .if1 .left)) (not-lt t tenLow n (unfold isNan in tt) (off (c .if3 .left))))
 
 returns-4 : tie.Need-returns-4
 unfolding ofBits div
-returns-4 c = let t = c .before .before .before .args .t in both t _ (sym (pow10-near t .high (beyond c)))
+returns-4 c = let t = c .before .before .before .args .x in both t _ (sym (pow10-near t .high (beyond c)))
 
 pub pow10-spec : {M : Type 1} → statement M
 pow10-spec =

@@ -1,6 +1,5 @@
--- `root::guess` meets its contract: the patterns are no NaN's. Assumes nothing.
+-- `root::guess` meets its contract: the pattern is no NaN's. Assumes nothing.
 use native.Mathlib.Omega.{arith}
-use Prim.Native.Nat.{_+_, _/_}
 use borrow.Author.Needs.{needs}
 use Rattle.fixed.proofs.Fields.{bits-no-nan}
 use Rattle.fixed.proofs.Order.{on, lt-left}
@@ -10,11 +9,8 @@ use Rattle.root.proofs.guess.Tie as tie
 float-from-bits-z : tie.Need-float-from-bits-z
 float-from-bits-z c = bits-no-nan (c .args .p) (omega arith)
 
-add-a : tie.Need-add-a
-add-a c = search needs
-
-float-from-bits-a : tie.Need-float-from-bits-a
-float-from-bits-a c = bits-no-nan (c .args .p / 2 + 532487669) (omega arith)
+line-requires : tie.Need-line-requires
+line-requires c κs = search needs
 
 returns : tie.Need-returns
 returns c = search needs
@@ -39,8 +35,7 @@ guess-spec =
     tie.close
     (tie.spec
     float-from-bits-z
-    add-a
-    float-from-bits-a
+    line-requires
     returns
     float-to-bits-t
     add-t

@@ -6,7 +6,7 @@ use borrow.Author.Needs.{needs}
 use lib.Dec.{T}
 use lib.Ieee.{Float, binary32, fits}
 use Rattle.fixed.specs.Fixed.{packOf}
-use Rattle.sine.specs.Exact.{within, lower}
+use Rattle.sine.specs.Exact.{folded, lower}
 use Rattle.sine.specs.Sine.{sineFix, quarter31, signed, waveOf}
 use Rattle.sine.proofs.Sign.{Turned, turned, pack-fits}
 use Rattle.sine.proofs.wave.Statement.{statement}
@@ -15,14 +15,14 @@ use Rattle.sine.proofs.wave.Tie as tie
 add-k : tie.Need-add-k
 add-k c = search needs
 
-mul-within : tie.Need-mul-within
-mul-within c = search needs
+mul-fold : tie.Need-mul-fold
+mul-fold c = search needs
 
-sub-within : tie.Need-sub-within
-sub-within c = search needs
+sub-fold : tie.Need-sub-fold
+sub-fold c = search needs
 
-within-requires : tie.Need-within-requires
-within-requires c κs = search needs
+fold-requires : tie.Need-fold-requires
+fold-requires c κs = search needs
 
 sine-fix-requires : tie.Need-sine-fix-requires
 sine-fix-requires c κs = search needs
@@ -40,9 +40,9 @@ quarters c = c .before .before .before .args .x / quarter31 + c .before .before 
 left : (x : ℕ) → x - x / quarter31 * quarter31 ≡ x % quarter31
 left x = omega arith
 
-size-of : (c : tie.After-pack) → c .pack .result ≡ packOf (sineFix (within (quarters c) quarter31 (c .before .before .before .args .x % quarter31))) 63
+size-of : (c : tie.After-pack) → c .pack .result ≡ packOf (sineFix (folded (quarters c) quarter31 (c .before .before .before .args .x % quarter31))) 63
 unfolding quarters
-size-of c = c .pack .ensures .0 ∙ ap (λ (q : ℕ). packOf q 63) (c .before .sine-fix .ensures .0 ∙ ap sineFix (c .before .before .within .ensures .0 ∙ ap (within (quarters c) quarter31) (left (c .before .before .before .args .x))))
+size-of c = c .pack .ensures .0 ∙ ap (λ (q : ℕ). packOf q 63) (c .before .sine-fix .ensures .0 ∙ ap sineFix (c .before .before .fold .ensures .0 ∙ ap (folded (quarters c) quarter31) (left (c .before .before .before .args .x))))
 
 known : (c : tie.After-pack) → Turned (quarters c) (c .pack .result)
 known c = turned (quarters c) 16777216 (c .before .sine-fix .result) (2 ^ 63) (c .pack .result) (subst (λ (v : Float). T (fits binary32 v)) (sym (c .pack .ensures .0)) (pack-fits (c .before .sine-fix .result) 63)) (c .pack .ensures .1)
@@ -70,9 +70,9 @@ wave-spec =
     tie.close
     (tie.spec
     add-k
-    mul-within
-    sub-within
-    within-requires
+    mul-fold
+    sub-fold
+    fold-requires
     sine-fix-requires
     pack-requires
     cast-sign

@@ -1,9 +1,9 @@
--- `sine::within` meets its contract. Assumes nothing.
+-- `sine::fold` meets its contract. Assumes nothing.
 use native.Mathlib.Omega.{arith}
 use borrow.Author.Needs.{needs}
 use borrow.Author.Tests.{eq-eqb, ne-eqb}
-use Rattle.sine.proofs.within.Statement.{statement}
-use Rattle.sine.proofs.within.Tie as tie
+use Rattle.sine.proofs.fold.Statement.{statement}
+use Rattle.sine.proofs.fold.Tie as tie
 
 returns : tie.Need-returns
 returns c = (rw (eq-eqb _ _ (c .if1 .taken)), c .before .pre)
@@ -14,5 +14,5 @@ sub-result c = search needs
 returns-2 : tie.Need-returns-2
 returns-2 c = (rw (ne-eqb _ _ (c .if1 .left)), omega arith)
 
-pub within-spec : {M : Type 1} → statement M
-within-spec = tie.close (tie.spec returns sub-result returns-2)
+pub fold-spec : {M : Type 1} → statement M
+fold-spec = tie.close (tie.spec returns sub-result returns-2)

@@ -1,9 +1,9 @@
--- `comp::read` meets its contract: as it stands. Assumes nothing.
+-- `comp::Settings::read` meets its contract: as it stands. Assumes nothing.
 use mathlib.Core.Path.{refl}
-use Rattle.comp.specs.Comp.{readOf}
+use Rattle.comp.specs.Comp.{settingsOf}
 use borrow.Author.Needs.{needs}
-use Rattle.comp.proofs.read.Statement.{statement}
-use Rattle.comp.proofs.read.Tie as tie
+use Rattle.comp.proofs.Settings.read.Statement.{statement}
+use Rattle.comp.proofs.Settings.read.Tie as tie
 
 shared-slice-read-t3 : tie.Need-shared-slice-read-t3
 shared-slice-read-t3 c = search needs
@@ -42,7 +42,7 @@ int-to-float-t21 : tie.Need-int-to-float-t21
 int-to-float-t21 c = search needs
 
 returns : tie.Need-returns
-unfolding readOf
+unfolding settingsOf
 returns c = refl
 
 pub read-spec : {M : Type 1} → statement M

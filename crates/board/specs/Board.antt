@@ -10,6 +10,7 @@ use lib.Ieee.{Float, neg, le}
 use Rattle.float.specs.Consts.{k0, k1, k0p5}
 use Rattle.float.specs.Ops.{_⊗_}
 use Rattle.float.specs.Floats.{to24Of}
+use Rattle.frame.specs.Offsets.{FRAME-BYTES}
 use Rattle.wobble.specs.Wobble.{newOf}
 use Rattle.dual.specs.Dual.{dualNew}
 use Rattle.hat.specs.Hat.{hatNew}
@@ -71,7 +72,7 @@ inputsOk x = inputOk (x .audio .l) && inputOk (x .audio .r) && inputOk (x .ext .
 -- "The lowest number that applies is answered"
 unfoldable pub refusalOf : List ℕ → List ℤ → List ℕ → Inputs → Outcome
 refusalOf f dac fx x =
-    cond (ltb (length f) 664) ShortFrame
+    cond (ltb (length f) FRAME-BYTES) ShortFrame
     (cond (ltb (length fx) 24) ShortParameters
     (cond (eqb (length dac) 16) (cond (allInRange dac) (cond (inputsOk x) Done InputRange) DacRange) DacCount))
 

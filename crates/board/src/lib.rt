@@ -11,6 +11,7 @@ ghost use mathlib.Core.Path.{_≡_};
 ghost use mathlib.Core.Bool.{Bool};
 ghost use Prim.Native.Nat.{_≤_, _<_};
 ghost use lib.ListN.{length};
+ghost use Rattle.frame.specs.Offsets.{FRAME-BYTES};
 ghost use Rattle.board.specs.Board.{freshOf, numberOf, inRange, allInRange, inputOk, inputsOk, refusalOf, refusedOf, wordsOf, steppedOf, answerOf};
 
 #[repr(C)]
@@ -125,7 +126,7 @@ fn inputs_ok(x: Inputs) -> bool
 pub fn refusal(f: &[u8], dac: &[i32], fx: &[u8], x: Inputs) -> Outcome
     ensures { λ r. ⌜ r ≡ refusalOf (now (f .entry)) (now (dac .entry)) (now (fx .entry)) x ⌝ }
 {
-    if f.len() < 664 {
+    if f.len() < frame::FRAME_BYTES {
         return Outcome::ShortFrame;
     }
     if fx.len() < 24 {
@@ -179,7 +180,7 @@ fn words(rx: [i32; 12], audio: Mix, mix: Mix) -> [i32; 12]
 
 // One sample.
 fn stepped(board: Analog, f: &[u8], dac: &[i32], fx: &[u8], x: Inputs) -> Answer
-    requires { ⌜ (664 ≤ length (now f)) × (16 ≤ length (now dac)) × (24 ≤ length (now fx)) ⌝ }
+    requires { ⌜ (FRAME-BYTES ≤ length (now f)) × (16 ≤ length (now dac)) × (24 ≤ length (now fx)) ⌝ }
     ensures { λ r. ⌜ r ≡ steppedOf board (now (f .entry)) (now (dac .entry)) (now (fx .entry)) x ⌝ }
 {
     let duals = board.duals;

@@ -4,8 +4,8 @@ use mathlib.Core.Bool.{true, false}
 use mathlib.Core.List.{List}
 use lib.Ieee.{Float}
 use Rattle.frame.specs.Offsets.{AMP-ENV, FLT-ENV}
-use Rattle.frame.specs.Frame.{bytesAt}
-use Rattle.frame.proofs.Sizes.{Bytes, bytes-in}
+use Rattle.frame.specs.Frame.{Bytes, bytesAt}
+use Rattle.frame.proofs.Sizes.{bytes-in}
 use Rattle.envelope.specs.Levels.{Level}
 use Rattle.envelope.proofs.Settle.{seg-level}
 use Rattle.chain.specs.declared.Chain.{Chain}

@@ -7,7 +7,8 @@ use mathlib.Core.List.{List}
 use lib.ListN.{getD, length}
 use Rattle.float.specs.Consts.{k0}
 use Rattle.frame.specs.Offsets.{CYM-ENV, CYM-BANK}
-use Rattle.frame.proofs.Sizes.{Bytes, bytes-in}
+use Rattle.frame.specs.Frame.{Bytes}
+use Rattle.frame.proofs.Sizes.{bytes-in}
 use Rattle.lists.specs.Turns.{eachOf}
 use Rattle.lists.proofs.Sweep.{each-length, each-at}
 use Rattle.envelope.specs.declared.Env.{Env}

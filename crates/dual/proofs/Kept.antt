@@ -15,7 +15,8 @@ use Rattle.float.specs.Ops.{_⊗_, _⊘_}
 use Rattle.float.specs.Floats.{minOf, clampOf}
 use Rattle.float.proofs.Eval.{leaf, con, plus, times, over, capped, floored, clamped, range, proves}
 use Rattle.frame.specs.Offsets.{PITCH-REC, AMP-REC, AMP2-REC, dualSpec}
-use Rattle.frame.proofs.Sizes.{Bytes, word-in, bytes-in}
+use Rattle.frame.specs.Frame.{Bytes}
+use Rattle.frame.proofs.Sizes.{word-in, bytes-in}
 use Rattle.envelope.specs.Levels.{Level}
 use Rattle.envelope.proofs.Settle.{dual-level}
 use Rattle.vco.specs.Vco.{pairOf}

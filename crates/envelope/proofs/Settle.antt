@@ -4,7 +4,7 @@ use mathlib.Core.Bool.{Bool, true, false, cond}
 use mathlib.Core.List.{List}
 use Prim.Native.Nat.{ℕ}
 use lib.Ieee.{Float, ofBits, neg, fits, le, lt, eq}
-use Rattle.frame.proofs.Sizes.{Bytes}
+use Rattle.frame.specs.Frame.{Bytes}
 use Rattle.envelope.specs.declared.Env.{Env}
 use Rattle.envelope.specs.declared.SegEnv.{SegEnv}
 use Rattle.envelope.specs.Record.{tickLevel}

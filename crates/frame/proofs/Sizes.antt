@@ -4,10 +4,7 @@ use native.Mathlib.Omega.{arith}
 use mathlib.Core.List.{List, [], _∷_}
 use lib.ListN.{getD, take, drop}
 use lib.Seq.{getD-drop}
-use Rattle.frame.specs.Frame.{wordAt, fieldAt, bytesAt}
-
-abbrev pub Bytes : List ℕ → Type 0
-Bytes f = (i : ℕ) → getD f i 0 < 256
+use Rattle.frame.specs.Frame.{Bytes, wordAt, fieldAt, bytesAt}
 
 pub word-in : (f : List ℕ) → Bytes f → (o : ℕ) → wordAt f o ≤ 65535
 word-in f h o = omega (arith, h o, h (o + 1))

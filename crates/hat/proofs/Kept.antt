@@ -6,9 +6,9 @@ use mathlib.Core.List.{List}
 use lib.Dec.{eqb}
 use lib.Ieee.{le}
 use Rattle.float.specs.Consts.{k0, kM127p5}
-use Rattle.frame.specs.Frame.{bytesAt}
+use Rattle.frame.specs.Frame.{Bytes, bytesAt}
 use Rattle.frame.specs.Offsets.{HAT-ENV, HAT-BANK}
-use Rattle.frame.proofs.Sizes.{Bytes, bytes-in}
+use Rattle.frame.proofs.Sizes.{bytes-in}
 use Rattle.envelope.specs.Record.{modeOf}
 use Rattle.envelope.specs.Moves.{hitOf}
 use Rattle.envelope.specs.Levels.{Level}

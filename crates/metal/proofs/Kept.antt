@@ -15,8 +15,8 @@ use Rattle.float.specs.Consts.{k0, k127, FS, k65536, k0p5}
 use Rattle.float.specs.Ops.{_⊕_, _⊗_, _⊘_}
 use Rattle.float.proofs.Eval.{leaf, plus, times, over, range, proves}
 use Rattle.float.proofs.Laws.{fract-in}
-use Rattle.frame.specs.Frame.{fieldAt}
-use Rattle.frame.proofs.Sizes.{Bytes, field-in}
+use Rattle.frame.specs.Frame.{Bytes, fieldAt}
+use Rattle.frame.proofs.Sizes.{field-in}
 use Rattle.lists.specs.Turns.{turnsOf}
 use Rattle.lists.proofs.Sweep.{turns-keep, set-keeps}
 use Rattle.vco.specs.Vco.{advanced}

@@ -85,7 +85,7 @@ module _ (b : Analog) (f : List ℕ) (dac : List ℤ) (fx : List ℕ) (x : Input
 
 -- so each envelope sees its record: the one lemma that ties the levels to the step
 state-after : (b : Analog) (f : List ℕ) (n : Analog) → Good b → Stepped b f n → (w : Which) → stateAt n w ≡ afterIn (stateAt b w) (recordAt f w)
-unfolding Dual.sampleOf Dual.settingOf Dual.recordAt Chain.processOf Chain.readOf Cym.recordAt dualOf hitOf takenOf
+unfolding Dual.sampleOf Dual.settingsOf Dual.recordAt Chain.processOf Chain.settingsOf Cym.recordAt dualOf hitOf takenOf
 state-after b f n g s (pitch d h) = ap (λ (e : DualOsc). State.dual (e .«last_p») (e .pitch .level)) (s .duals d h .is)
 state-after b f n g s (amp d h) = ap (λ (e : DualOsc). State.dual (e .«last_a») (e .amp .level)) (s .duals d h .is)
 state-after b f n g s (amp2 d h) = ap (λ (e : DualOsc). State.dual (e .«last_m») (e .amp2 .level)) (s .duals d h .is)

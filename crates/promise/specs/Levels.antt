@@ -5,7 +5,7 @@ use mathlib.Core.List.{List, [], _∷_, _++_}
 use lib.ListN.{getD}
 use lib.Ieee.{Float, nan}
 use Rattle.frame.specs.Frame.{bytesAt}
-use Rattle.frame.specs.Offsets.{dualSpec}
+use Rattle.frame.specs.Offsets.{AMP-ENV, FLT-ENV, HAT-ENV, CYM-ENV, PITCH-REC, AMP-REC, AMP2-REC, dualSpec}
 use Rattle.envelope.specs.Moves.{Move}
 use Rattle.envelope.specs.States as State
 use Rattle.envelope.specs.States.{State, levelIn, moveIn}
@@ -51,13 +51,13 @@ stateAt b (chainFilter v h) = State.chainFilter (getD (b .chains) v noChain .flt
 
 -- where its record stands in the frame
 abbrev pub offsetAt : Which → ℕ
-offsetAt (pitch d h) = dualSpec d .env + 8 * 0
-offsetAt (amp d h) = dualSpec d .env + 8 * 2
-offsetAt (amp2 d h) = dualSpec d .env + 8 * 3
-offsetAt hat = 488
-offsetAt (cymbal r h) = 496 + 8 * r
-offsetAt (chainAmp v h) = 168 + 8 * v
-offsetAt (chainFilter v h) = 296 + 8 * v
+offsetAt (pitch d h) = dualSpec d .env + 8 * PITCH-REC
+offsetAt (amp d h) = dualSpec d .env + 8 * AMP-REC
+offsetAt (amp2 d h) = dualSpec d .env + 8 * AMP2-REC
+offsetAt hat = HAT-ENV
+offsetAt (cymbal r h) = CYM-ENV + 8 * r
+offsetAt (chainAmp v h) = AMP-ENV + 8 * v
+offsetAt (chainFilter v h) = FLT-ENV + 8 * v
 
 -- the level, its eight bytes, and its move in an accepted step: the one that the definition of the step makes of the board and the bytes
 abbrev pub levelAt : Analog → Which → Float

@@ -6,7 +6,7 @@ use mathlib.Core.List.{List}
 use lib.ListN.{getD, length, length-set}
 use lib.IntN.{ℤ, pos}
 use Rattle.frame.specs.Offsets.{tomSpec}
-use Rattle.frame.proofs.Sizes.{Bytes}
+use Rattle.frame.specs.Frame.{Bytes}
 use Rattle.lists.proofs.Sweep.{turns-keep, set-keeps, Turn, turns-at}
 use Rattle.wobble.specs.declared.Wobble.{Wobble}
 use Rattle.wobble.proofs.Kept.{WobbleIn}

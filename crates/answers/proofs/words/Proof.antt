@@ -1,15 +1,15 @@
--- `player::block` meets its contract: the steps are those that its lines are of. Assumes nothing.
+-- `answers::words` is safe: the text lies within its page. Assumes nothing.
 use mathlib.Core.Path.{sym}
 use lib.Seq.{length-take-le}
 use borrow.Author.Needs.{needs}
-use Rattle.player.proofs.block.Statement.{statement}
-use Rattle.player.proofs.block.Tie as tie
+use Rattle.answers.proofs.words.Statement.{statement}
+use Rattle.answers.proofs.words.Tie as tie
 
-slice-aggregate-lines : tie.Need-slice-aggregate-lines
-slice-aggregate-lines c = search needs
+slice-aggregate-words : tie.Need-slice-aggregate-words
+slice-aggregate-words c = search needs
 
-lines-requires : tie.Need-lines-requires
-lines-requires c κs = search needs
+words-requires : tie.Need-words-requires
+words-requires c κs = search needs
 
 array-share-prefix-out : tie.Need-array-share-prefix-out
 array-share-prefix-out c = search needs
@@ -23,12 +23,12 @@ write-all-requires c κs = search needs
 returns : tie.Need-returns
 returns c = search needs
 
-pub block-spec : {M : Type 1} → statement M
-block-spec =
+pub words-spec : {M : Type 1} → statement M
+words-spec =
     tie.close
     (tie.spec
-    slice-aggregate-lines
-    lines-requires
+    slice-aggregate-words
+    words-requires
     array-share-prefix-out
     slice-aggregate-write-all
     write-all-requires

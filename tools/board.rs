@@ -44,6 +44,7 @@ use fields::bits;
 use frames::{Style, STYLES};
 use met::{Count, Met};
 use oracle::analog as rust;
+use oracle::counted;
 use recording::{Recording, Writer};
 use rng::Rng;
 use rytm::{Analog, Answer, Board, Mix};
@@ -55,6 +56,8 @@ struct Twin {
     rust: rust::Analog,
     /// The Rust's board in the port's form.
     board: Analog,
+    /// The board was random, or came from one.
+    random: bool,
 }
 
 struct Report {
@@ -63,11 +66,38 @@ struct Report {
     /// Steps that differ in each field.
     of: Vec<u64>,
     met: Met,
+    /// Curve calls, of boards that came from fresh ones and of random ones.
+    curves: [[counted::Count; counted::NAMES.len()]; 2],
 }
 
 impl Report {
     fn new() -> Report {
-        Report { steps: 0, differ: 0, of: Vec::new(), met: Met::new() }
+        Report { steps: 0, differ: 0, of: Vec::new(), met: Met::new(), curves: [counted::take(); 2] }
+    }
+
+    /// Takes the counts of the curve calls since the last time.
+    fn tally(&mut self, random: bool) {
+        for (c, n) in self.curves[random as usize].iter_mut().zip(counted::take()) {
+            c.calls += n.calls;
+            c.outside += n.outside;
+            c.nan += n.nan;
+            c.least = c.least.min(n.least);
+            c.most = c.most.max(n.most);
+        }
+    }
+
+    fn print_curves(&self) {
+        for (boards, counts) in ["boards that came from fresh ones", "random boards"].iter().zip(&self.curves) {
+            if counts.iter().all(|c| c.calls == 0) {
+                continue;
+            }
+            println!("curve calls on {boards}:");
+            println!("  {:8}{:>14}{:>14}{:>14}   {}", "", "calls", "out of range", "no number", "least and most of the numbers");
+            for (name, c) in counted::NAMES.iter().zip(counts) {
+                let span = if c.outside > c.nan { format!("   {:e} to {:e}", c.least, c.most) } else { String::new() };
+                println!("  {name:8}{:>14}{:>14}{:>14}{span}", c.calls, c.outside, c.nan);
+            }
+        }
     }
 
     /// A fresh board on both sides, compared.
@@ -77,9 +107,9 @@ impl Report {
         self.met.fresh(seed, ideal);
         let of = |board: Analog| Answer { number: 0, rx: [0; 12], mix: Mix { l: 0.0, r: 0.0 }, board };
         if self.differs(&of(*port.state()), &of(board), || println!("fresh boards differ: seed {seed}, ideal {ideal}")) {
-            return Twin { port: Board::of(board), rust, board };
+            return Twin { port: Board::of(board), rust, board, random: false };
         }
-        Twin { port, rust, board }
+        Twin { port, rust, board, random: false }
     }
 
     /// Whether the port's answer differs from the Rust's; the first time all of it is told.
@@ -131,6 +161,7 @@ impl Report {
     fn end(&self, coverage: bool) -> ! {
         if coverage {
             self.met.print();
+            self.print_curves();
         }
         if !self.of.is_empty() {
             let board = Analog::of(&rust::Analog::fresh(1, false));
@@ -169,14 +200,17 @@ fn generated(report: &mut Report, steps: u64, seed: u64) {
             desk.step(rng);
             if style == Style::States && rng.one_in(8) {
                 let board = boards::random(rng, &desk.frames.frame);
-                twin = Twin { port: Board::of(board), rust: board.rust(), board };
+                report.tally(twin.random);
+                twin = Twin { port: Board::of(board), rust: board.rust(), board, random: true };
                 report.met.add(Count::Random, true);
             }
             report.step(&mut twin, &desk.case(), &place);
             if stuck(&twin.board) && rng.one_in(256) {
+                report.tally(twin.random);
                 twin = report.fresh(seed, ideal);
             }
         }
+        report.tally(twin.random);
         episode += 1;
     }
 }
@@ -194,6 +228,7 @@ fn recorded(report: &mut Report, file: &str, print: bool) {
             println!("{} {} {:08x} {:08x}", a.number, words.join(" "), bits(a.mix.l), bits(a.mix.r));
         }
     }
+    report.tally(false);
 }
 
 /// Writes a recording of generated steps, as many of each style.
@@ -237,6 +272,7 @@ fn main() {
     if let Some(to) = to {
         return record(&to, steps, seed);
     }
+    println!("{}", oracle::ABOUT);
     let mut report = Report::new();
     match file {
         Some(file) => recorded(&mut report, &file, print),

@@ -4,7 +4,7 @@
 //!     --recordings N    how many (default 100000)
 //!     --seed S          seed of the generated recordings (default 1)
 //!     --time FILE       plays FILE twenty times with each instead, and tells steps a second
-//!     --program WORD..  the program with its loader; the last option
+//!     --program FILE    the program
 
 #[path = "../target/oracle/mod.rs"]
 mod oracle;
@@ -232,8 +232,8 @@ fn expected(b: &[u8]) -> (String, u32, u64) {
 }
 
 /// What the program wrote, unless it failed.
-fn written(program: &[String], b: &[u8]) -> Result<Vec<u8>, String> {
-    let mut child = Command::new(&program[0]).args(&program[1..]).stdin(Stdio::piped()).stdout(Stdio::piped()).spawn().map_err(|e| e.to_string())?;
+fn written(program: &str, b: &[u8]) -> Result<Vec<u8>, String> {
+    let mut child = Command::new(program).stdin(Stdio::piped()).stdout(Stdio::piped()).spawn().map_err(|e| e.to_string())?;
     // It stops reading past the limit, so that a longer input may meet a closed pipe.
     if let Err(e) = child.stdin.take().unwrap().write_all(b) {
         if b.len() <= MOST {
@@ -261,8 +261,8 @@ fn watch() {
 }
 
 /// Steps a second of both on one recording, the best of twenty.
-fn time(program: &[String], file: &str) {
-    let b = std::fs::read(file).expect("the recording");
+fn time(program: &str, file: &str) {
+    let b = std::fs::read(file).unwrap_or_else(|e| stop(&format!("{file}: {e}")));
     let (text, _, steps) = expected(&b);
     let (mut ours, mut theirs) = (Duration::MAX, Duration::MAX);
     for _ in 0..20 {
@@ -278,19 +278,25 @@ fn time(program: &[String], file: &str) {
     println!("{steps} steps: the program {:.0} steps a second with its start, the Rust {:.0}", rate(ours), rate(theirs));
 }
 
+fn stop(why: &str) -> ! {
+    eprintln!("damage: {why}");
+    std::process::exit(2);
+}
+
 fn main() {
-    let (mut count, mut seed, mut program, mut timed) = (100_000, 1, Vec::new(), None);
+    let (mut count, mut seed, mut program, mut timed) = (100_000, 1, String::new(), None);
     let mut words = std::env::args().skip(1);
     while let Some(word) = words.next() {
-        let mut number = || words.next().and_then(|v| v.parse::<u64>().ok()).expect("a number is missing");
+        let mut number = || words.next().and_then(|v| v.parse::<u64>().ok()).unwrap_or_else(|| stop(&format!("{word}: a number is missing")));
         match word.as_str() {
             "--recordings" => count = number(),
             "--seed" => seed = number(),
             "--time" => timed = words.next(),
-            "--program" => program = words.by_ref().collect(),
-            _ => panic!("options: --recordings N --seed S | --time FILE, --program WORD.."),
+            "--program" => program = words.next().unwrap_or_default(),
+            _ => stop("options: --recordings N --seed S | --time FILE"),
         }
     }
+    println!("{}", oracle::ABOUT);
     if let Some(file) = timed {
         return time(&program, &file);
     }

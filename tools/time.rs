@@ -119,6 +119,7 @@ fn main() {
         eprintln!("options: --seconds N");
         std::process::exit(2);
     };
+    println!("{}\n{}", oracle::ABOUT, own::ABOUT);
     let tape = Tape::new(seconds);
     let mut best = [f64::INFINITY; 3];
     let mut sums = [0; 3];

@@ -9,7 +9,3 @@ joined x a b q p = p ∙ ap (λ (l : List ℕ). l ++ b) q ∙ append-assoc x a b
 
 pub joined5 : (x a b c d e : List ℕ) {y₁ y₂ y₃ y₄ z : List ℕ} → y₁ ≡ x ++ a → y₂ ≡ y₁ ++ b → y₃ ≡ y₂ ++ c → y₄ ≡ y₃ ++ d → z ≡ y₄ ++ e → z ≡ x ++ (a ++ (b ++ (c ++ (d ++ e))))
 joined5 x a b c d e {y₁} {y₂} {y₃} {y₄} p q r s t = joined x a (b ++ (c ++ (d ++ e))) p (joined y₁ b (c ++ (d ++ e)) q (joined y₂ c (d ++ e) r (joined y₃ d e s t)))
-
-pub joined7 : (x a b c d e f g : List ℕ) {y₁ y₂ y₃ y₄ y₅ y₆ z : List ℕ} → y₁ ≡ x ++ a → y₂ ≡ y₁ ++ b → y₃ ≡ y₂ ++ c → y₄ ≡ y₃ ++ d → y₅ ≡ y₄ ++ e → y₆ ≡ y₅ ++ f → z ≡ y₆ ++ g →
-    z ≡ x ++ (a ++ (b ++ (c ++ (d ++ (e ++ (f ++ g))))))
-joined7 x a b c d e f g {y₁} {y₂} p q r s t u v = joined x a (b ++ (c ++ (d ++ (e ++ (f ++ g))))) p (joined y₁ b (c ++ (d ++ (e ++ (f ++ g)))) q (joined5 y₂ c d e f g r s t u v))

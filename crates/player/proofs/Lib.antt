@@ -1,3 +1,4 @@
 -- The laws.
 pub mod Joined
 pub mod Steps
+pub mod Whole

@@ -1,2 +1,2 @@
 -- The definitions that the contracts of `player` cite.
-pub mod Lines
+pub mod Text

@@ -1,4 +1,4 @@
 // Plays the recording on standard input: a line for each step, with its number, the answer's number and the twelve receive words.
 fn main() {
-    player::run(false);
+    player::play(0);
 }

@@ -10,7 +10,7 @@ use lib.Seq.{drop-cons}
 use lib.IntN.{ℤ, pos, negsuc, natAbs}
 use lib.Signed.{ltZ}
 use borrow.Author.Tests.{lt-ltb, le-ltb, ltb-true}
-use Rattle.text.specs.Text.{digitsOf, decimalOf, glyph, hexOf, signedOf, wordsOf}
+use Rattle.text.specs.Text.{digitsOf, decimalOf, signedOf, wordsOf}
 
 pub one-digit : (k n : ℕ) → (k ≡ 0 → ⊥) → n < 10 → digitsOf k n ≡ (48 + n) ∷ []
 unfolding digitsOf
@@ -21,11 +21,6 @@ pub more-digits : (k n : ℕ) → (k ≡ 0 → ⊥) → 10 ≤ n → digitsOf k 
 unfolding digitsOf
 more-digits zero n f h = absurd (f refl)
 more-digits (suc k) n f h = rw (sub-one, le-ltb n 10 h)
-
-pub more-hex : (k n : ℕ) → (k ≡ 0 → ⊥) → hexOf k n ≡ hexOf (k - 1) (n / 16) ++ (glyph (n % 16) ∷ [])
-unfolding hexOf
-more-hex zero n f = absurd (f refl)
-more-hex (suc k) n f = rw sub-one
 
 pub with-sign : (w : ℤ) → ltZ w (pos 0) ≡ true → signedOf w ≡ 45 ∷ decimalOf (natAbs w)
 unfolding signedOf

@@ -19,15 +19,6 @@ unfoldable pub readOf : ℕ → List ℕ → ℕ
 readOf n [] = n
 readOf n (d ∷ ds) = readOf (n * 10 + (d - 48)) ds
 
--- a hexadecimal digit, small letters
-unfoldable pub glyph : ℕ → ℕ
-glyph d = cond (ltb d 10) (48 + d) (87 + d)
-
--- the last k hexadecimal digits of n
-unfoldable pub hexOf : ℕ → ℕ → List ℕ
-hexOf zero n = []
-hexOf (suc k) n = hexOf k (n / 16) ++ (glyph (n % 16) ∷ [])
-
 -- a minus where it is negative, then the digits of its size
 unfoldable pub signedOf : ℤ → List ℕ
 signedOf (pos n) = decimalOf n

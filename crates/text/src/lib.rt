@@ -1,12 +1,11 @@
 // Numbers as text, put into a lent page one after the other: each function takes the place where it starts and gives the place after its text.
+// The kit's `io` has decimal digits too, at the start of an array of their own, and no signed numbers.
 ghost use mathlib.Core.Path.{_≡_};
-ghost use mathlib.Core.Bool.{Bool};
 ghost use mathlib.Core.List.{[], _∷_, _++_};
 ghost use Prim.Native.Nat.{_+_, _*_, _≤_, _<_};
 ghost use lib.ListN.{length, take};
-ghost use lib.Ieee.{binary32, toBits};
 ghost use lib.IntN.{natAbs};
-ghost use Rattle.text.specs.Text.{digitsOf, glyph, hexOf, signedOf, wordsOf};
+ghost use Rattle.text.specs.Text.{digitsOf, signedOf, wordsOf};
 
 pub fn put(out: &mut [u8], at: usize, b: u8) -> usize
     requires { ⌜ at < length (now out) ⌝ }
@@ -31,26 +30,6 @@ pub fn digits(out: &mut [u8], at: usize, n: u32, most: usize) -> usize
     }
     let next = digits(out, at, n / 10, most - 1);
     put(out, next, 48 + (n % 10) as u8)
-}
-
-fn hex_digit(d: u32) -> u8
-    requires { ⌜ d < 16 ⌝ }
-    ensures { λ r. ⌜ r ≡ glyph d ⌝ }
-{
-    if d < 10 { 48 + d as u8 } else { 87 + d as u8 }
-}
-
-// The last `most` hexadecimal digits of n, zeros too.
-pub fn hex(out: &mut [u8], at: usize, n: u32, most: usize) -> usize
-    requires { ⌜ at + most ≤ length (now out) ⌝ }
-    ensures { λ r. ⌜ r ≡ at + most ⌝ }
-    ensures { λ r. ⌜ take r (now (out .exit)) ≡ take at (now (out .entry)) ++ hexOf most n ⌝ }
-{
-    if most == 0 {
-        return at;
-    }
-    let next = hex(out, at, n / 16, most - 1);
-    put(out, next, hex_digit(n % 16))
 }
 
 // The size of w.
@@ -92,14 +71,4 @@ pub fn words(out: &mut [u8], at: usize, rx: [i32; 12]) -> usize
         i += 1;
     }
     next
-}
-
-// The bit pattern of x; of a value that is no number, that of the plain one.
-pub fn bits(x: f32) -> u32
-    ensures { λ r. ⌜ r ≡ toBits binary32 x ⌝ }
-{
-    if x != x {
-        return 2143289344;
-    }
-    f32::to_bits(x)
 }

@@ -2,7 +2,7 @@
 use mathlib.Core.Path.{ap}
 use native.Mathlib.Omega.{arith}
 use Rattle.recording.specs.declared.Played.{Played}
-use Rattle.player.specs.Lines.{lineOf}
+use Rattle.player.specs.Text.{lineOf}
 use borrow.Author.Needs.{needs}
 use Rattle.player.proofs.line.Statement.{statement}
 use Rattle.player.proofs.line.Tie as tie
@@ -13,8 +13,8 @@ next-requires c κs = search needs
 number-requires : tie.Need-number-requires
 number-requires c κs = search needs
 
-answer-line-requires : tie.Need-answer-line-requires
-answer-line-requires c κs = search needs
+step-line-requires : tie.Need-step-line-requires
+step-line-requires c κs = search needs
 
 same-length : tie.Need-same-length
 same-length c = search needs
@@ -22,30 +22,8 @@ same-length c = search needs
 returns : tie.Need-returns
 unfolding lineOf
 returns c =
-    let s = c .before .before .before .before .before .before .before .before .before in
-    (ap (λ (a : Played). a .playing) (s .next .ensures), (omega arith, rw (← s .next .ensures, c .before .before .before .before .if1 .taken, ← c .before .before .before .before .before .before .before .before .number .ensures) (c .before .before .answer-line .ensures .1)))
-
-step-line-requires : tie.Need-step-line-requires
-step-line-requires c κs = search needs
-
-same-length-2 : tie.Need-same-length-2
-same-length-2 c = search needs
-
-returns-2 : tie.Need-returns-2
-unfolding lineOf
-returns-2 c =
-    let s = c .before .before .before .before .before .before .before .before .before in
-    (ap (λ (a : Played). a .playing) (s .next .ensures), (omega arith, rw (← s .next .ensures, c .before .before .before .before .if1 .left, ← c .before .before .before .before .before .before .before .before .number .ensures) (c .before .before .step-line .ensures .1)))
+    let s = c .before .before .before .before .before .before .before in
+    (ap (λ (a : Played). a .playing) (s .next .ensures .0), (omega arith, rw (← s .next .ensures .0, ← c .before .before .before .before .before .before .number .ensures) (c .before .before .step-line .ensures .1)))
 
 pub line-spec : {M : Type 1} → statement M
-line-spec =
-    tie.close
-    (tie.spec
-    next-requires
-    number-requires
-    answer-line-requires
-    same-length
-    returns
-    step-line-requires
-    same-length-2
-    returns-2)
+line-spec = tie.close (tie.spec next-requires number-requires step-line-requires same-length returns)

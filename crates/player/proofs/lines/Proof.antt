@@ -7,21 +7,21 @@ use lib.ListN.{length, take}
 use Rattle.recording.specs.Replay.{afterOf}
 use Rattle.recording.specs.declared.Playing.{Playing}
 use Rattle.recording.specs.Play.{nextOf}
-use Rattle.player.specs.Lines.{lineOf, linesOf}
+use Rattle.player.specs.Text.{lineOf, linesOf}
 use Rattle.player.proofs.Steps.{lines-more, after-more}
 use borrow.Author.Needs.{needs}
 use Rattle.player.proofs.lines.Statement.{statement}
 use Rattle.player.proofs.lines.Tie as tie
 
 abbrev Inv-loop : tie.InvT-loop
-Inv-loop rec out₀ count full l₀ left₀ out l left =
+Inv-loop rec out₀ count l₀ left₀ out l left =
     (length out ≡ length out₀)
     × (l .at + 176 * left ≤ length out₀)
-    × (take (l .at) out ++ linesOf full left (l .playing) rec ≡ linesOf full count (l₀ .playing) rec)
+    × (take (l .at) out ++ linesOf left (l .playing) rec ≡ linesOf count (l₀ .playing) rec)
     × (afterOf left (l .playing) rec ≡ afterOf count (l₀ .playing) rec)
 
 abbrev μ-loop : tie.MeasureT-loop
-μ-loop rec out₀ count full l₀ left₀ out l left = left
+μ-loop rec out₀ count l₀ left₀ out l left = left
 
 -- y is a after x, and with b it makes what x makes with a and b
 rest : (x a b : List ℕ) {y w z : List ℕ} → y ≡ x ++ a → w ≡ a ++ b → x ++ w ≡ z → y ++ b ≡ z
@@ -44,12 +44,11 @@ loop-again c =
     let i = c .before .before .before .before .before in
     let l = i .before .loop in
     let r = i .before .before .before .before .args .rec .now in
-    let full = i .before .before .before .before .args .full in
     let e = c .before .before .line .ensures in
     let p = i .loop-test .taken in
     let e₀ = c .before .before .line .result in
     let e₁ = c .before .before .line .last .1 .1 .0 in
-    (search needs, omega arith, ap (λ (q : Playing). take (e₀ .at) e₁ ++ linesOf full (l .left - 1) q r) (e .0) ∙ rest (take (l .l .at) (l .out)) (lineOf full (l .l .playing .at) (nextOf (l .l .playing) r)) (linesOf full (l .left - 1) (nextOf (l .l .playing) r .playing) r) (e .1 .1) (lines-more full (l .left) (l .l .playing) r p) (l .inv .2), ap (λ (q : Playing). afterOf (l .left - 1) q r) (e .0) ∙ sym (after-more (l .left) (l .l .playing) r p) ∙ l .inv .3)
+    (search needs, omega arith, ap (λ (q : Playing). take (e₀ .at) e₁ ++ linesOf (l .left - 1) q r) (e .0) ∙ rest (take (l .l .at) (l .out)) (lineOf (l .l .playing .at) (nextOf (l .l .playing) r)) (linesOf (l .left - 1) (nextOf (l .l .playing) r .playing) r) (e .1 .1) (lines-more (l .left) (l .l .playing) r p) (l .inv .2), ap (λ (q : Playing). afterOf (l .left - 1) q r) (e .0) ∙ sym (after-more (l .left) (l .l .playing) r p) ∙ l .inv .3)
 
 same-length : tie.Need-same-length Inv-loop μ-loop
 same-length c = search needs

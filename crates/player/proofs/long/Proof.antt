@@ -1,5 +1,5 @@
 -- `player::long` meets its contract: the opening is tested. Assumes nothing.
-use Rattle.player.specs.Lines.{longOf}
+use Rattle.player.specs.Text.{longOf}
 use borrow.Author.Needs.{needs}
 use Rattle.player.proofs.long.Statement.{statement}
 use Rattle.player.proofs.long.Tie as tie

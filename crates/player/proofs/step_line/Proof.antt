@@ -4,7 +4,7 @@ use lib.ListN.{take}
 use Rattle.text.specs.Text.{decimalOf, wordsOf}
 use Rattle.player.proofs.Joined.{joined5}
 use native.Mathlib.Omega.{arith}
-use Rattle.player.specs.Lines.{stepLine}
+use Rattle.player.specs.Text.{stepLine}
 use borrow.Author.Needs.{needs}
 use Rattle.player.proofs.step_line.Statement.{statement}
 use Rattle.player.proofs.step_line.Tie as tie

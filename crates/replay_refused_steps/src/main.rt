@@ -1,4 +1,0 @@
-// Plays a recording with refused steps among accepted ones.
-fn main() {
-    player::run(false);
-}

@@ -20,10 +20,10 @@ number-requires-2 : tie.Need-number-requires-2
 number-requires-2 c κs = search needs
 
 returns-2 : tie.Need-returns-2
-returns-2 c = start-played _ _ _ _ (c .before .before .if1 .left) (c .before .before .before .before .«open» .ensures) (c .before .number2 .ensures) (c .if2 .taken)
+returns-2 c = start-played _ _ _ _ (c .before .before .if1 .left) (c .before .before .before .before .«open» .ensures .0) (c .before .number2 .ensures) (c .if2 .taken)
 
 returns-3 : tie.Need-returns-3
-returns-3 c = start-refused _ _ _ _ (c .before .before .if1 .left) (c .before .before .before .before .«open» .ensures) (c .before .number2 .ensures) (c .if2 .left)
+returns-3 c = start-refused _ _ _ _ (c .before .before .if1 .left) (c .before .before .before .before .«open» .ensures .0) (c .before .number2 .ensures) (c .if2 .left)
 
 pub start-spec : {M : Type 1} → statement M
 start-spec =

@@ -62,3 +62,11 @@ one-nearest q n m a b = le-antisymm (no-larger q m n b a) (no-larger q n m a b)
 
 pub root-lt : (n : ℕ) → n * n < 281474976710656 → n < 16777216
 root-lt n h = lt-of-not-le (λ (g : 16777216 ≤ n). lt-irrefl (n * n) (lt-of-lt-of-le h (mul-le-mul g g)))
+
+-- a square of up to 24 digits, and one above 0
+pub square-le : (n : ℕ) → n ≤ 16777216 → n * n ≤ 281474976710656
+square-le n h = mul-le-mul h h
+
+pub above : (n : ℕ) → 0 < n * n → 1 ≤ n
+above zero h = omega arith
+above (suc n) h = omega arith

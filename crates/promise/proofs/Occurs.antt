@@ -26,7 +26,7 @@ use Rattle.board.specs.declared.Analog.{Analog}
 use Rattle.board.specs.Board.{inRange, allInRange, inputOk, inputsOk, refusalOf}
 use Rattle.promise.specs.Calls.{Given, Call, step, taken, nextOf, reachedOf}
 use Rattle.promise.specs.Levels.{Which, pitch, amp, amp2, hat, cymbal, chainAmp, chainFilter, offsetAt, stateAt, levelAt, recordAt}
-use Rattle.promise.specs.Promise.{ticks, ticksIn, EachAccepted, Continues, targetOf, Stretched}
+use Rattle.promise.specs.Promise.{ticksIn, EachAccepted, Continues, targetOf, Stretched}
 use Rattle.promise.proofs.Kept.{Good, good-levels, call-good, call-state}
 use Rattle.promise.proofs.Run.{run-arrives}
 

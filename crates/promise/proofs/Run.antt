@@ -12,8 +12,7 @@ use Rattle.frame.proofs.Sizes.{bytes-in}
 use Rattle.envelope.specs.Record.{recordOf, tickLevel}
 use Rattle.envelope.specs.Moves.{Move, given, stood, ticked, settle}
 use Rattle.envelope.specs.States.{State, levelIn, afterIn, NeverStops}
-use Rattle.envelope.specs.Levels.{Level, Between, Equal}
-use Rattle.envelope.specs.Levels.{ticks as tickTimes}
+use Rattle.envelope.specs.Levels.{Level, Between, Equal, ticks}
 use Rattle.envelope.proofs.Ranges.{record-in}
 use Rattle.envelope.proofs.Arrive.{tick-stays, tick-equal}
 use Rattle.envelope.proofs.Run.{ticks-stay}
@@ -22,7 +21,7 @@ use Rattle.envelope.proofs.States.{move-bytes, one-tick, seen-restarts-nothing,
 use Rattle.board.specs.declared.Analog.{Analog}
 use Rattle.promise.specs.Calls.{Given, Call, givenOf, taken, nextOf, reachedOf}
 use Rattle.promise.specs.Levels.{Which, offsetAt, stateAt, levelAt, recordAt, moveAt}
-use Rattle.promise.specs.Promise.{moveOf, ticks, ticksIn, EachAccepted, Carries, Continues, targetOf, acceptedIn, NotStopped}
+use Rattle.promise.specs.Promise.{moveOf, tickedBy, ticksIn, EachAccepted, Carries, Continues, targetOf, acceptedIn, NotStopped}
 use Rattle.promise.proofs.Kept.{Good, good-levels, call-good, call-state, call-moves}
 
 so : (c : Bool) → c ≡ true → T c
@@ -38,7 +37,7 @@ reached-good b (k ∷ ks) g = reached-good (nextOf b k) ks (call-good b k g)
 carried-bytes : (k : Call) (w : Which) → Bytes (recordAt (givenOf k .frame) w)
 carried-bytes k w = bytes-in (givenOf k .frame) (givenOf k .bytes) (offsetAt w)
 
-pub call-between : (b : Analog) (k : Call) → Good b → (w : Which) → T (ticks b k w) → let m = moveOf b k w in Between (stood m (levelAt b w)) (levelAt (nextOf b k) w) (given m .target)
+pub call-between : (b : Analog) (k : Call) → Good b → (w : Which) → T (tickedBy b k w) → let m = moveOf b k w in Between (stood m (levelAt b w)) (levelAt (nextOf b k) w) (given m .target)
 call-between b k g w t = by (taken k) (ticked m) t refl refl
   where
     m : Move
@@ -60,8 +59,8 @@ module _ (w : Which) (bytes : List ℕ) where
 
   -- what a call does in a stretch: an accepted one ticks the level, a refused one leaves it
   data One (b : Analog) (k : Call) : Type 0 where
-    tick : Bytes bytes → ticks b k w ≡ true → levelAt (nextOf b k) w ≡ tickLevel (levelAt b w) (targetOf bytes) step → One b k
-    rest : ticks b k w ≡ false → levelAt (nextOf b k) w ≡ levelAt b w → One b k
+    tick : Bytes bytes → tickedBy b k w ≡ true → levelAt (nextOf b k) w ≡ tickLevel (levelAt b w) (targetOf bytes) step → One b k
+    rest : tickedBy b k w ≡ false → levelAt (nextOf b k) w ≡ levelAt b w → One b k
 
   one : (b : Analog) (k : Call) → Good b → (T (taken k) → Continues w bytes b (givenOf k)) → One b k
   one b k g h = by (taken k) refl
@@ -77,28 +76,28 @@ module _ (w : Which) (bytes : List ℕ) where
           (ap levelIn q ∙ one-tick s r (c .not-restarted) (c .not-held) (c .not-parked) ∙ ap (λ (l : List ℕ). tickLevel (levelAt b w) (recordOf l .target) (recordOf l .step)) (c .unchanged))
       by false e = rest (simp e) (call-moves b k g w ∙ ap (λ (t : Bool). cond t (settle (moveOf b k w) (levelAt b w)) (levelAt b w)) e)
 
-  shift : (n : ℕ) (x t s : Float) → tickTimes n (tickLevel x t s) t s ≡ tickTimes (suc n) x t s
-  unfolding tickTimes
+  shift : (n : ℕ) (x t s : Float) → ticks n (tickLevel x t s) t s ≡ ticks (suc n) x t s
+  unfolding ticks
   shift zero x t s = refl
   shift (suc n) x t s = ap (λ (y : Float). tickLevel y t s) (shift n x t s)
 
   abbrev count : Analog → Call → ℕ → ℕ
-  count b k n = cond (ticks b k w) (suc n) n
+  count b k n = cond (tickedBy b k w) (suc n) n
 
   -- the level ticks once for each tick that is counted
-  run-level : (b : Analog) (ks : List Call) → Good b → EachAccepted (Continues w bytes) b ks → levelAt (reachedOf b ks) w ≡ tickTimes (ticksIn w b ks) (levelAt b w) (targetOf bytes) step
-  unfolding reachedOf ticksIn tickTimes
+  run-level : (b : Analog) (ks : List Call) → Good b → EachAccepted (Continues w bytes) b ks → levelAt (reachedOf b ks) w ≡ ticks (ticksIn w b ks) (levelAt b w) (targetOf bytes) step
+  unfolding reachedOf ticksIn ticks
   run-level b [] g h = refl
   run-level b (k ∷ ks) g h = run-level (nextOf b k) ks (call-good b k g) (h .1) ∙ by (one b k g (h .0)) (ticksIn w (nextOf b k) ks)
     where
-      by : One b k → (n : ℕ) → tickTimes n (levelAt (nextOf b k) w) (targetOf bytes) step ≡ tickTimes (count b k n) (levelAt b w) (targetOf bytes) step
+      by : One b k → (n : ℕ) → ticks n (levelAt (nextOf b k) w) (targetOf bytes) step ≡ ticks (count b k n) (levelAt b w) (targetOf bytes) step
       by (tick B t e) n =
-          ap (λ (y : Float). tickTimes n y (targetOf bytes) step) e
+          ap (λ (y : Float). ticks n y (targetOf bytes) step) e
           ∙ shift n (levelAt b w) (targetOf bytes) step
-          ∙ ap (λ (c : Bool). tickTimes (cond c (suc n) n) (levelAt b w) (targetOf bytes) step) (sym t)
+          ∙ ap (λ (c : Bool). ticks (cond c (suc n) n) (levelAt b w) (targetOf bytes) step) (sym t)
       by (rest t e) n =
-          ap (λ (y : Float). tickTimes n y (targetOf bytes) step) e
-          ∙ ap (λ (c : Bool). tickTimes (cond c (suc n) n) (levelAt b w) (targetOf bytes) step) (sym t)
+          ap (λ (y : Float). ticks n y (targetOf bytes) step) e
+          ∙ ap (λ (c : Bool). ticks (cond c (suc n) n) (levelAt b w) (targetOf bytes) step) (sym t)
 
   -- a run that ticks has a record of bytes
   run-bytes : (b : Analog) (ks : List Call) → Good b → EachAccepted (Continues w bytes) b ks → 0 < ticksIn w b ks → Bytes bytes
@@ -117,7 +116,7 @@ module _ (w : Which) (bytes : List ℕ) where
   run-arrives b ks g h n =
       let r = record-in bytes (run-bytes b ks g h (omega arith)) in
       run-level b ks g h
-      ∙ ap (λ (k : ℕ). tickTimes k (levelAt b w) (targetOf bytes) step) (more (ticksIn w b ks) n)
+      ∙ ap (λ (k : ℕ). ticks k (levelAt b w) (targetOf bytes) step) (more (ticksIn w b ks) n)
       ∙ ticks-stay (targetOf bytes) step (r .target .0) (r .step) (levelAt b w) (good-levels b g w) (ticksIn w b ks - 131072)
 
   -- what a tick keeps of a level, a stretch keeps
@@ -175,7 +174,7 @@ module _ (w : Which) (bytes : List ℕ) where
       next true e = seen-after b k g e (c .0 (so (taken k) e))
       next false e = seen-left b k g e s
 
-      count : (t : Bool) → taken k ≡ t → cond (ticks b k w) (suc (ticksIn w (nextOf b k) ks)) (ticksIn w (nextOf b k) ks) ≡ cond (taken k) (suc (ticksIn w (nextOf b k) ks)) (ticksIn w (nextOf b k) ks)
+      count : (t : Bool) → taken k ≡ t → cond (tickedBy b k w) (suc (ticksIn w (nextOf b k) ks)) (ticksIn w (nextOf b k) ks) ≡ cond (taken k) (suc (ticksIn w (nextOf b k) ks)) (ticksIn w (nextOf b k) ks)
       count true e = let m = n .0 (so (taken k) e) in simp (e, m .not-parked, m .not-held)
       count false e = simp e
 

@@ -65,7 +65,7 @@ module _ (b : Analog) (g : Good b) (calls : List Call) where
   beyond : Beyond b calls
   beyond = record {
     moves = λ p w. call-moves (at (p .before)) (p .call) (at-good (p .before)) w;
-    stays = λ p w bytes first later e h k.
+    stays-exactly = λ p w bytes first later e h k.
         let s = at (p .before) in
         subst (λ (r : List Call). levelAt (reachedOf s r) w ≡ targetOf bytes) e
         (run-stays w bytes s first later (at-good (p .before)) (subst (λ (r : List Call). EachAccepted (Continues w bytes) s r) (sym e) h) k);

@@ -35,13 +35,13 @@ abbrev pub moveOf : Analog → Call → Which → Move
 moveOf b k w = moveAt b (givenOf k .frame) w
 
 -- "a tick is one application of the tick rule"; "refused ones .. tick nothing"
-abbrev pub ticks : Analog → Call → Which → Bool
-ticks b k w = taken k && ticked (moveOf b k w)
+abbrev pub tickedBy : Analog → Call → Which → Bool
+tickedBy b k w = taken k && ticked (moveOf b k w)
 
 -- "ticks are counted from the stretch's first call"
 unfoldable pub ticksIn : Which → Analog → List Call → ℕ
 ticksIn w b [] = 0
-ticksIn w b (k ∷ ks) = cond (ticks b k w) (suc (ticksIn w (nextOf b k) ks)) (ticksIn w (nextOf b k) ks)
+ticksIn w b (k ∷ ks) = cond (tickedBy b k w) (suc (ticksIn w (nextOf b k) ks)) (ticksIn w (nextOf b k) ks)
 
 -- at each accepted step of a run, P of the board that it takes and of what it is given; "refused ones may carry anything"
 abbrev pub EachAccepted : (Analog → Given → Type 0) → Analog → List Call → Type 0
@@ -76,7 +76,7 @@ pub record Promise (b : Analog) (calls : List Call) : Type 0 where
   pub phases : (o : Osc) → Within k0 k1 (phaseAt (reachedOf b calls) o)
   -- "each tick between where the level stood and its target"
   pub between : (p : Place calls) (w : Which) → let s = reachedOf b (p .before) in
-      T (ticks s (p .call) w) → let m = moveOf s (p .call) w in Between (stood m (levelAt s w)) (levelAt (nextOf s (p .call)) w) (given m .target)
+      T (tickedBy s (p .call) w) → let m = moveOf s (p .call) w in Between (stood m (levelAt s w)) (levelAt (nextOf s (p .call)) w) (given m .target)
   -- "arrival within 131,072 ticks"
   pub arrives : (p : Stretch calls) (w : Which) (bytes : List ℕ) → let s = reachedOf b (p .before) in
       EachAccepted (Continues w bytes) s (p .run) → 131072 ≤ ticksIn w s (p .run) → levelAt (reachedOf s (p .run)) w ≡ targetOf bytes
@@ -104,7 +104,7 @@ pub record Beyond (b : Analog) (calls : List Call) : Type 0 where
   pub moves : (p : Place calls) (w : Which) → let s = reachedOf b (p .before) in
       levelAt (nextOf s (p .call)) w ≡ cond (taken (p .call)) (settle (moveOf s (p .call) w) (levelAt s w)) (levelAt s w)
   -- a level that is its target to the bit stays so
-  pub stays : (p : Stretch calls) (w : Which) (bytes : List ℕ) (first later : List Call) → first ++ later ≡ p .run → let s = reachedOf b (p .before) in
+  pub stays-exactly : (p : Stretch calls) (w : Which) (bytes : List ℕ) (first later : List Call) → first ++ later ≡ p .run → let s = reachedOf b (p .before) in
       EachAccepted (Continues w bytes) s (p .run) → levelAt (reachedOf s first) w ≡ targetOf bytes → levelAt (reachedOf s (p .run)) w ≡ targetOf bytes
   -- where the accepted steps of a stretch carry one record and none holds or parks the level, 131,073 of them bring it onto its target: the first may restart it
   pub settles : (p : Stretch calls) (w : Which) (bytes : List ℕ) → let s = reachedOf b (p .before) in

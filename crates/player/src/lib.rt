@@ -1,7 +1,6 @@
 // The text of a replay, page by page, and the reading and writing around it.
 use board::Outcome;
 use recording::Playing;
-use stereo::Mix;
 ghost use mathlib.Core.Path.{_≡_};
 ghost use mathlib.Core.Bool.{Bool};
 ghost use mathlib.Core.List.{_++_};

@@ -77,7 +77,7 @@ int main(void) {
     for (int i = 0; i < 8; i++)
         fx[6 + 2 * i] = compressor[i];
     clock_gettime(CLOCK_MONOTONIC, &from);
-    Analog board = rytm_fresh(0x2545F491, false);
+    Analog board = rytm_fresh(RYTM_DEFAULT_SEED, false);
     for (int n = 0; n < STEPS; n++) {
         if (n == 0 || n == COMMANDS)
             hit(n == 0);

@@ -74,7 +74,7 @@ fn main() {
     }
     let (mut frame, mut dac, mut peak) = (Frame::hit(true), [0; 16], [0; 12]);
     let from = std::time::Instant::now();
-    let mut board = Board::fresh(0x2545_F491, false);
+    let mut board = Board::fresh(rytm::DEFAULT_SEED, false);
     for n in 0..STEPS {
         if n == COMMANDS {
             frame = Frame::hit(false);

@@ -164,6 +164,9 @@ extern "C" {
     ) -> Answer;
 }
 
+/// A board's seed where none is given.
+pub const DEFAULT_SEED: u32 = 0x2545_F491;
+
 /// What one step gives besides the next board.
 #[derive(Clone, Copy, Debug)]
 pub struct Step {

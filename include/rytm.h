@@ -86,6 +86,9 @@ typedef struct {
     Analog board;
 } Answer;
 
+/* A board's seed where none is given. */
+#define RYTM_DEFAULT_SEED UINT32_C(0x2545F491)
+
 /* A fresh board; seed 0 counts as 1. */
 Analog rytm_fresh(uint32_t seed, bool ideal);
 
@@ -109,6 +112,8 @@ float rytm_tan(float x);
 float rytm_tanh(float x);
 /* The decimal logarithm of x. */
 float rytm_log10(float x);
+/* The square root of x, correctly rounded. */
+float rytm_sqrt(float x);
 
 #ifdef __cplusplus
 }

@@ -4,6 +4,8 @@
 //!     --every N   only every Nth bit pattern (default 1)
 //!     --time      times each curve beside Rust's library instead
 //!     CURVE...    only these
+//!
+//! Links curves_c.
 
 #[path = "curves/timing.rs"]
 mod timing;

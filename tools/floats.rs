@@ -1,5 +1,7 @@
 //! Compares the port's float functions with Rust's own: on the edge values, on all pairs of special values, and on random
 //! bit patterns (`--all`: the functions of one argument on every pattern). Two values that are not numbers count as equal.
+//!
+//! Links float_c.
 
 extern "C" {
     fn rytm_abs(x: f32) -> f32;

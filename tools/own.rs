@@ -4,6 +4,8 @@
 //!
 //!     --recording FILE    the steps of a recording (edition 1)
 //!     --steps N           the recording again and again until N steps (default: once)
+//!
+//! Links board_c curves_c.
 
 #[path = "../target/oracle_own/mod.rs"]
 mod oracle;

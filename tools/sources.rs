@@ -6,6 +6,8 @@
 //!     --steps N   phases of each waveform, samples of the pair, of each source alone, and of the eight together
 //!                 (default 2000000)
 //!     --seed S    seed of the cases (default 1)
+//!
+//! Links sources_c curves_c.
 
 #[path = "../target/oracle/mod.rs"]
 mod oracle;
@@ -186,6 +188,7 @@ fn options() -> (u64, u64) {
 
 fn main() {
     let (steps, seed) = options();
+    println!("{}", oracle::ABOUT);
     let references = references::compare(seed, steps);
     let mut rng = Rng::new(seed);
     let mut report = Report { compared: 0, differ: 0, of: [0; 8], cover: Coverage::new() };

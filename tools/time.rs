@@ -2,6 +2,8 @@
 //! The same firmware-like steps for each, one thread, turn by turn; the best of each counts.
 //!
 //!     --seconds N    sound in each turn (default 2)
+//!
+//! Links board_c curves_c.
 
 #[path = "../target/oracle/mod.rs"]
 mod oracle;
@@ -37,7 +39,7 @@ use rng::Rng;
 use sides::Case;
 use std::time::Instant;
 
-const SEED: u32 = 0x2545_F491;
+const SEED: u32 = rytm::DEFAULT_SEED;
 const TURNS: usize = 5;
 const PATTERNS: usize = 10;
 

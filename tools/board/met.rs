@@ -129,7 +129,7 @@ impl Met {
         let kind = match seed {
             0 => Fresh0,
             1 => Fresh1,
-            0x2545_f491 => FreshDefault,
+            crate::rytm::DEFAULT_SEED => FreshDefault,
             _ => FreshOther,
         };
         self.add(kind, true);

@@ -143,7 +143,7 @@ pub fn random(rng: &mut Rng, source: Source, f: &[u8]) -> State {
 /// A random sequence's state: usually depth 0 or 1.
 pub fn wobble(rng: &mut Rng, wild: bool) -> Wobble {
     let any = rng.word();
-    let s = rng.pick(&[any, any, any, 1, 0x2545_f491, u32::MAX]);
+    let s = rng.pick(&[any, any, any, 1, crate::rytm::DEFAULT_SEED, u32::MAX]);
     if wild && rng.one_in(4) {
         let depth = if rng.one_in(2) { rng.word() } else { rng.pick(&SPECIAL) };
         return Wobble { s: rng.pick(&[s, 0]), depth: f32::from_bits(depth) };

@@ -20,11 +20,6 @@ unfolding afterOf
 after-more zero p r h = absurd (omega arith)
 after-more (suc n) p r h = rw sub-one
 
-pub after-both : (m n : ℕ) (p : Playing) (r : List ℕ) → afterOf n (afterOf m p r) r ≡ afterOf (m + n) p r
-unfolding afterOf
-after-both zero n p r = rw zero-add
-after-both (suc m) n p r = rw suc-add (after-both m n (nextOf p r .playing) r)
-
 pub lines-both : (m n : ℕ) (p : Playing) (r : List ℕ) → linesOf m p r ++ linesOf n (afterOf m p r) r ≡ linesOf (m + n) p r
 unfolding linesOf afterOf
 lines-both zero n p r = rw zero-add

@@ -14,7 +14,7 @@ use Rattle.fixed.specs.Fixed.{signOf, placeOf, sizeOf}
 use Rattle.fixed.proofs.Fields.{cond-fits}
 use Rattle.fixed.proofs.Order.{le-make, not-lt, not-le, le-left, lt-not-le}
 use Rattle.line.proofs.Mono.{Good, le-trans-good}
-use Rattle.line.proofs.Range.{In, ends, inside, between, good, good-of, in-of}
+use Rattle.line.proofs.Range.{In, ends, inside, between, good, good-of}
 use Rattle.power.specs.Exact.{tenNum, tenDen}
 use Rattle.power.specs.Near.{Pow10Near}
 use Rattle.power.specs.Power.{fractionOf, powerOf, zeroF, exp2Low, exp2High, expLow, tenLow, tenHigh, log2E, productOf, fallOf, exp2Of, expOf, pow10Of}
@@ -93,11 +93,6 @@ pub exp2-octave : {t : Float} → In binary32 (fin true 1 (pos 0)) (fin false 1 
 unfolding exp2Of powerOf placeOf fractionOf horner ofBits lt le eq ne fits
 exp2-octave h = exp2-in (fin false 1 (negsuc 0)) (fin false 1 (pos 1)) h tt
 
--- from -128 / 1200 to 128 / 1200, rounded: from 237 / 256 to 69 / 64
-pub exp2-drift : {t : Float} → In binary32 (fin true 7158279 (negsuc 25)) (fin false 7158279 (negsuc 25)) t → In binary32 (fin false 237 (negsuc 7)) (fin false 69 (negsuc 5)) (exp2Of t)
-unfolding exp2Of powerOf placeOf fractionOf horner ofBits lt le eq ne fits
-exp2-drift h = exp2-in (fin false 237 (negsuc 7)) (fin false 69 (negsuc 5)) h tt
-
 -- from -16 to 0: from 2 ^ -16 to 1
 pub exp2-gain : {t : Float} → In binary32 (fin true 1 (pos 4)) (fin false 0 (pos 0)) t → In binary32 (fin false 1 (negsuc 15)) (fin false 1 (pos 0)) (exp2Of t)
 unfolding exp2Of powerOf placeOf fractionOf horner ofBits lt le eq ne fits
@@ -132,10 +127,3 @@ pow10-positive t n = go (lt t tenLow) (lt tenHigh t) (λ u. u) (λ u. u) (λ u. 
     go false false f f' g g' =
         plus (2 ^ 14) (tenNum (signOf t) (num t) (den t)) (tenDen (signOf t) (num t) (den t)) (pow10Of t)
         (r .near (not-lt t tenLow n (unfold isNan in tt) (f' tt)) (not-lt tenHigh t (unfold isNan in tt) n (g' tt)))
-
--- ---- from the bare facts
-pub exp2-range : (lo hi a b t : Float) → T (fits binary32 t) → T (ends binary32 a b) → T (exp2T lo hi a b) → T (le a t) → T (le t b) → T (le lo (exp2Of t)) × T (le (exp2Of t) hi)
-exp2-range lo hi a b t f e k h l = let i = exp2-in lo hi (in-of binary32 a b t e f h l) k in (i .from, i .upto)
-
-pub exp-range : (lo hi a b t : Float) → T (fits binary32 t) → T (ends binary32 a b) → T (expT lo hi a b) → T (le a t) → T (le t b) → T (le lo (expOf t)) × T (le (expOf t) hi)
-exp-range lo hi a b t f e k h l = let i = exp-in lo hi (in-of binary32 a b t e f h l) k in (i .from, i .upto)

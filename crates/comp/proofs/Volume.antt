@@ -17,11 +17,11 @@ use Rattle.comp.specs.Tables.{volRow, volRows}
 use Rattle.comp.specs.Comp.{volFirst, volTurn, volOf}
 
 -- a test that passes at each number below n
-abbrev below : (ℕ → Bool) → ℕ → Bool
+abbrev pub below : (ℕ → Bool) → ℕ → Bool
 below p zero = true
 below p (suc n) = p n && below p n
 
-below-at : (p : ℕ → Bool) (n : ℕ) → T (below p n) → (k : ℕ) → k < n → T (p k)
+pub below-at : (p : ℕ → Bool) (n : ℕ) → T (below p n) → (k : ℕ) → k < n → T (p k)
 below-at p zero t k h = absurd (omega arith)
 below-at p (suc n) t k h = by (λ i. below-at p n (and-r (p n) (below p n) t) k i) (decLt k n)
   where

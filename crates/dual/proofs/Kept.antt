@@ -55,7 +55,7 @@ pub record-bytes : (f : List ℕ) → Bytes f → (d k : ℕ) → Bytes (recordA
 unfolding recordAt
 record-bytes f h d k = bytes-in f h (dualSpec d .env + 8 * k)
 
-level-range : (x : Float) → Level x → In binary32 kM128 k127 x
+pub level-range : (x : Float) → Level x → In binary32 kM128 k127 x
 unfolding ofBits fits neg
 level-range x h = in-of binary32 kM128 k127 x tt (h .f32) (h .low) (h .high)
 

@@ -41,7 +41,7 @@ low-good = unfold fits in (tt, tt)
 high-good : Good binary32 exp2High
 high-good = unfold fits in (tt, tt)
 
-below : (t b : Float) → Good binary32 t → Good binary32 b → T (le t b) → T (lt b exp2High) → T (lt t exp2High)
+pub below : (t b : Float) → Good binary32 t → Good binary32 b → T (le t b) → T (lt b exp2High) → T (lt t exp2High)
 below t b g k h l =
     not-le exp2High t (unfold isNan in tt) (le-left t b h) (not-T (le exp2High t) (λ u. T-not (le exp2High b) (lt-not-le b exp2High l) (le-trans-good binary32 exp2High t b high-good g k u h)))
 

@@ -30,7 +30,7 @@ part-in : (p c : Float) → Unit p → Unit c → Unit (fractOf (p ⊕ c))
 unfolding ofBits proves
 part-in p c h k = fract-in k3 (p ⊕ c) (range k0 k3 (plus (leaf h) (leaf k)) tt)
 
-asym-in : (p : Float) → Unit p → In binary32 k0 k8 (TAU ⊗ asymOf p)
+pub asym-in : (p : Float) → Unit p → In binary32 k0 k8 (TAU ⊗ asymOf p)
 unfolding asymOf ofBits proves
 asym-in p h =
     range k0 k8 (times (con TAU) (leaf (in-cond binary32 k0 k1p01 (lt p k0p35)

@@ -1,0 +1,5 @@
+-- The laws.
+pub mod Inside
+pub mod Sources
+pub mod Chain
+pub mod Comp

@@ -1,0 +1,2 @@
+-- The ranges.
+pub mod Ranges

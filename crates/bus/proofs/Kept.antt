@@ -1,14 +1,14 @@
 -- What the voices of a step do to each chain: its own sample, from some input; and every receive word stays within ±8,388,607. Assumes nothing.
 use Prim.Native.Nat.{ℕ, zero, suc, _≤_, _<_}
 use native.Mathlib.Omega.{arith}
-use mathlib.Core.Path.{_≡_, refl, sym, ap, _∙_, subst}
+use mathlib.Core.Path.{_≡_, refl}
 use mathlib.Core.List.{List, [], _∷_}
 use lib.ListN.{getD, set, length, replicate}
 use lib.Dec.{lit≤}
 use lib.IntN.{ℤ, pos, natAbs}
 use lib.Ieee.{Float, binary32}
 use lib.Ieee.Fits.{mul-fits}
-use Rattle.float.specs.Consts.{k0, k0p5}
+use Rattle.float.specs.Consts.{k0p5}
 use Rattle.float.specs.Ops.{_⊗_}
 use Rattle.float.specs.Floats.{to24Of}
 use Rattle.float.proofs.Laws.{word-in}

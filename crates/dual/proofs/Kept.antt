@@ -6,11 +6,11 @@ use mathlib.Core.List.{List}
 use lib.ListN.{getD}
 use lib.Dec.{eqb, le→leb}
 use lib.IntN.{pos}
-use lib.Ieee.{Float, nan, binary32, neg, le, lt, eq, fits, ofBits, ofInt, round}
-use Rattle.line.proofs.Range.{In, in-of}
+use lib.Ieee.{Float, nan, binary32, le, lt, eq, fits, ofBits, ofInt, round}
+use Rattle.line.proofs.Range.{In}
 use Rattle.line.proofs.Rem.{nought-in}
 use Rattle.line.proofs.Whole.{ofInt-in}
-use Rattle.float.specs.Consts.{k0, k1, k127, FS, k65535, k0p45, kM128}
+use Rattle.float.specs.Consts.{k0, k1, k127, FS, k65535, k0p45}
 use Rattle.float.specs.Ops.{_⊗_, _⊘_}
 use Rattle.float.specs.Floats.{minOf, clampOf}
 use Rattle.float.proofs.Eval.{leaf, con, plus, times, over, capped, floored, clamped, range, proves}
@@ -18,6 +18,7 @@ use Rattle.frame.specs.Offsets.{PITCH-REC, AMP-REC, AMP2-REC, dualSpec}
 use Rattle.frame.specs.Frame.{Bytes}
 use Rattle.frame.proofs.Sizes.{word-in, bytes-in}
 use Rattle.envelope.specs.Levels.{Level}
+use Rattle.envelope.proofs.Ranges.{level-range}
 use Rattle.envelope.proofs.Settle.{dual-level}
 use Rattle.vco.specs.Vco.{pairOf}
 use Rattle.vco.proofs.Kept.{osc-in, advanced-in, advanced-fm-in}
@@ -54,10 +55,6 @@ cv-in f h d k = word-in f h (dualSpec d .cv + 2 * k)
 pub record-bytes : (f : List ℕ) → Bytes f → (d k : ℕ) → Bytes (recordAt f d k)
 unfolding recordAt
 record-bytes f h d k = bytes-in f h (dualSpec d .env + 8 * k)
-
-pub level-range : (x : Float) → Level x → In binary32 kM128 k127 x
-unfolding ofBits fits neg
-level-range x h = in-of binary32 kM128 k127 x tt (h .f32) (h .low) (h .high)
 
 word-range : (w : ℕ) → w ≤ 65535 → In binary32 k0 k65535 (ofInt binary32 (pos w))
 word-range w h = unfold ofBits ofInt round fits le lt eq in ofInt-in binary32 (pos 0) (pos 65535) k0 k65535 (pos w) (le→leb 0 w (omega arith)) (le→leb w 65535 h) tt

@@ -9,15 +9,20 @@ use lib.IntN.{ℤ, pos, negsuc}
 use lib.Dec.{T, ltb, le→leb, lt→ltb, ltb→lt, nltb→le}
 use lib.Signed.{leZ}
 use lib.Pow.{pow-pos, pow-mono}
-use lib.Ieee.{fin, binary32, round, ofInt, ofBits, neg, le, lt, eq, fits, inSigned, inFloat}
+use lib.Ieee.{Float, fin, binary32, round, ofInt, ofBits, neg, le, lt, eq, fits, inSigned, inFloat}
 use lib.Ieee.Back.{positive-back, negative-back}
+use Rattle.line.proofs.Range.{In, in-of}
 use Rattle.line.proofs.Whole.{ofInt-in}
-use Rattle.float.specs.Consts.{k2, k8388608}
+use Rattle.float.specs.Consts.{k2, k127, k8388608, kM128}
 use Rattle.float.proofs.Eval.{leaf, over, range, proves}
 use Rattle.envelope.specs.Record.{levelOf, stepOf, recordOf}
 use Rattle.envelope.specs.Levels.{Level, Whole, Step, Ranges}
 
 -- ---- a level
+pub level-range : (x : Float) → Level x → In binary32 kM128 k127 x
+unfolding ofBits neg fits le lt eq
+level-range x h = in-of binary32 kM128 k127 x tt (h .f32) (h .low) (h .high)
+
 pub level-in : (b : ℕ) → b < 256 → Level (levelOf b)
 unfolding levelOf
 level-in b h = go (ltb b 128) (ltb→lt b 128) (nltb→le b 128)

@@ -1,6 +1,6 @@
 -- An envelope of any kind: what it keeps, the move that a record makes of it, and what it keeps after that. Definitions only.
 use Prim.Native.Nat.{ℕ, zero, suc}
-use mathlib.Core.Bool.{Bool, true, false}
+use mathlib.Core.Bool.{true, false}
 use mathlib.Core.List.{List}
 use lib.Dec.{T}
 use lib.Ieee.{Float}

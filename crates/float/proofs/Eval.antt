@@ -3,7 +3,6 @@ use mathlib.Core.Bool.{Bool, true, _&&_, cond}
 use lib.Dec.{T}
 use lib.Ieee.{mul, div, Float, Format, neg, add, sub, le, lt, ne, fits}
 use lib.Ieee.Fits.{and-i, and-l, and-r}
-use lib.Ieee.Scale.{finite}
 use Rattle.line.proofs.Mono.{Good}
 use Rattle.line.proofs.Range.{In, good, good-of, ends, inside, wideT, in-self, in-wide, in-cond, in-add, addT, in-neg, in-mul, mulT, in-div, divT, not-lt, cut-high, cut-low}
 use Rattle.float.specs.Floats.{minOf, maxOf, clampOf}

@@ -1,12 +1,12 @@
 -- The remainder by 1 as the code finds it: below 1 it is the number itself, below 2^23 the number less its whole part, and from there on nothing. Assumes nothing.
 use mathlib.Core.Path.{_≡_, refl, sym, ap, _∙_, subst}
 use mathlib.Core.Bool.{Bool, true, false, not, _&&_, cond}
-use Prim.Native.Nat.{ℕ, zero, suc, _+_, _-_, _*_, _/_, _%_, _^_, _<_, _≤_, min}
-use native.Mathlib.Nat.{mod-eq-of-lt, mod-one, mul-one, one-mul, mul-assoc, mul-comm, mul-right-comm, mul-div-cancel, mul-pos, sub-self, zero-mul, le-refl, add-zero, mul-le-mul-right, mod-lt, mod-add-div', add-mul-mod-self-right, div-lt-iff-lt-mul, pow-succ'}
+use Prim.Native.Nat.{ℕ, suc, _+_, _-_, _*_, _/_, _%_, _^_, _<_, _≤_, min}
+use native.Mathlib.Nat.{mod-eq-of-lt, mod-one, mul-one, mul-assoc, mul-comm, mul-right-comm, mul-div-cancel, mul-pos, sub-self, zero-mul, le-refl, add-zero, mul-le-mul-right, mod-lt, mod-add-div', add-mul-mod-self-right, div-lt-iff-lt-mul, pow-succ'}
 use native.Mathlib.Omega.{arith}
 use lib.Dec.{T, ltb, lit<}
 use lib.IntN.{ℤ, pos, negsuc}
-use lib.Pow.{pow-pos, pow-mono}
+use lib.Pow.{pow-pos}
 use lib.Ieee.{Float, Format, binary32, nan, inf, fin, prec, low, hid, top, size, up, down, round, sum, add, sub, neg, rem, lt, fits, ofInt, ofBits, toBits, toSigned}
 use lib.Ieee.Back.{round-whole}
 use lib.Ieee.Bits.{ofBits-toBits}

@@ -1,6 +1,6 @@
 -- An exact product that the format holds is the product, and so times 1 and -1. Assumes nothing.
 use mathlib.Core.Path.{_≡_, refl, sym, ap, _∙_, subst}
-use Prim.Native.Nat.{ℕ, _-_, _*_, _^_}
+use Prim.Native.Nat.{ℕ, _*_, _^_}
 use native.Mathlib.Nat.{mul-one, one-mul, mul-assoc, mul-pos}
 use mathlib.Core.Bool.{Bool}
 use lib.IntN.{pos}

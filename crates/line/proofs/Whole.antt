@@ -7,7 +7,7 @@ use mathlib.Core.Bool.{Bool, true, false, _&&_, _||_}
 use lib.IntN.{ℤ, pos, negsuc, negℤ, natAbs}
 use lib.Dec.{T, ltb, eqb, leb→le, ltb→lt, eqb→eq, lit<}
 use lib.Signed.{leZ}
-use lib.Ieee.{Float, nan, inf, fin, Format, prec, low, up, down, ofInt, toSigned, lt, le, eq}
+use lib.Ieee.{Float, nan, inf, fin, Format, low, up, down, ofInt, toSigned, lt, le, eq}
 use lib.Ieee.Fits.{and-l, and-r, ofInt-fits}
 use lib.Ieee.Exact.{HasValue}
 use Rattle.line.proofs.Bools.{or-e}

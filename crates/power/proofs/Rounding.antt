@@ -1,6 +1,6 @@
 -- The rounding's error, and the three errors together: the float of two to the power w - 128 against the exact two-power of any fraction near w.
 -- The exponent is put into its field, so one rounding is left, to 24 digits. Assumes nothing.
-use mathlib.Core.Path.{_≡_, refl, sym, ap, _∙_}
+use mathlib.Core.Path.{_≡_, refl, ap, _∙_}
 use mathlib.Core.Bool.{false}
 use Prim.Native.Nat.{ℕ, _+_, _-_, _*_, _/_, _%_, _^_, _≤_, _<_}
 use native.Mathlib.Nat.{mul-pos, mul-le-mul-right, le-of-mul-le-mul-right, mod-lt}

@@ -9,9 +9,9 @@ use Rattle.frame.specs.Frame.{Bytes}
 use Rattle.board.specs.declared.Analog.{Analog}
 use Rattle.board.specs.declared.Inputs.{Inputs}
 use Rattle.board.specs.declared.Outcome.{Outcome}
-use Rattle.board.specs.Board.{accepted, refusalOf, steppedOf, refusedOf, answeredIf, answerOf}
+use Rattle.board.specs.Board.{refusalOf, steppedOf, refusedOf, answeredIf, answerOf}
 use borrow.Author.Tests.{eqb-true}
-use Rattle.promise.specs.Calls.{Given, answer, Call, step, givenOf, outcomeOf, wordsOf, taken, nextOf, AnswerOf, StepAnswer}
+use Rattle.promise.specs.Calls.{Given, answer, Call, step, givenOf, taken, nextOf, AnswerOf, StepAnswer}
 
 -- the board that an accepted call steps to
 abbrev pub steppedBy : Analog → Given → Analog

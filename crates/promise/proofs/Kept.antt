@@ -6,13 +6,12 @@ use mathlib.Core.Bool.{Bool, true, false, cond}
 use mathlib.Core.List.{List}
 use lib.ListN.{getD, length}
 use lib.IntN.{ℤ}
-use lib.Ieee.{Float}
 use Rattle.frame.specs.Frame.{Bytes}
 use Rattle.envelope.specs.declared.Env.{Env}
 use Rattle.envelope.specs.Record.{modeOf}
 use Rattle.envelope.specs.Moves.{settle, dualOf, hitOf}
 use Rattle.envelope.specs.States as State
-use Rattle.envelope.specs.States.{State, levelIn, moveIn, afterIn}
+use Rattle.envelope.specs.States.{State, levelIn, afterIn}
 use Rattle.envelope.specs.Levels.{Level}
 use Rattle.envelope.proofs.States.{level-after}
 use Rattle.dual.specs.declared.DualOsc.{DualOsc}
@@ -34,8 +33,8 @@ use Rattle.bus.proofs.Kept.{ChainBy, chains-long, chain-by}
 use Rattle.board.specs.declared.Analog.{Analog}
 use Rattle.board.specs.declared.Inputs.{Inputs}
 use Rattle.board.specs.Board.{takenOf, steppedOf}
-use Rattle.promise.specs.Calls.{Given, Call, givenOf, taken, nextOf}
-use Rattle.promise.specs.Levels.{Which, pitch, amp, amp2, hat, cymbal, chainAmp, chainFilter, stateAt, levelAt, recordAt, moveAt}
+use Rattle.promise.specs.Calls.{Call, givenOf, taken, nextOf}
+use Rattle.promise.specs.Levels.{Which, pitch, amp, amp2, hat, cymbal, chainAmp, chainFilter, stateAt, levelAt, recordAt}
 use Rattle.promise.specs.Promise.{moveOf}
 use Rattle.promise.proofs.Calls.{steppedBy, Way, took, left, way}
 

@@ -1,7 +1,7 @@
 -- From a board within the ranges stretches of every length occur for every level, and the level starts away from its target: a frame of one record 83 times, sent
 -- again and again. The record has mode B and the least step, and as its target 1 or 2, whichever the level is not; of a dual voice and a chain it carries no
 -- command, so that it restarts nothing, of the hat and the cymbal it carries one, so that it does not park. Assumes nothing.
-use Prim.Native.Nat.{ℕ, zero, suc, _+_, _*_, _≤_, _<_}
+use Prim.Native.Nat.{ℕ, zero, suc, _+_, _*_, _<_}
 use native.Mathlib.Nat.{suc-add, le-trans}
 use native.Mathlib.Omega.{arith}
 use mathlib.Core.Path.{_≡_, refl, sym, ap, _∙_, subst}
@@ -14,9 +14,9 @@ use lib.Ieee.{Float, ofBits, ofInt, round, neg, le, lt, eq}
 use Rattle.float.specs.Consts.{k0}
 use Rattle.frame.specs.Frame.{Bytes, bytesAt}
 use Rattle.frame.specs.Offsets.{duals, dualSpec}
-use Rattle.envelope.specs.Record.{modeOf, recordOf, levelOf}
+use Rattle.envelope.specs.Record.{recordOf, levelOf}
 use Rattle.envelope.specs.Moves.{alike, keyOf, sameKey, dualMove, hitMove, segMove, segStarts}
-use Rattle.envelope.specs.States.{State, dual, hit, levelIn, moveIn, afterIn, NeverStops}
+use Rattle.envelope.specs.States.{State, dual, hit, moveIn, afterIn, NeverStops}
 use Rattle.envelope.specs.States as State
 use Rattle.envelope.specs.Levels.{Level, Equal}
 use Rattle.envelope.proofs.Ranges.{level-in}
@@ -24,9 +24,9 @@ use Rattle.envelope.proofs.Arrive.{level-at, in-order, ordered}
 use Rattle.envelope.proofs.States.{never-held, never-parked}
 use Rattle.board.specs.declared.Analog.{Analog}
 use Rattle.board.specs.Board.{inRange, allInRange, inputOk, inputsOk, refusalOf}
-use Rattle.promise.specs.Calls.{Given, Call, step, taken, nextOf, reachedOf}
+use Rattle.promise.specs.Calls.{Given, Call, step, taken, nextOf}
 use Rattle.promise.specs.Levels.{Which, pitch, amp, amp2, hat, cymbal, chainAmp, chainFilter, offsetAt, stateAt, levelAt, recordAt}
-use Rattle.promise.specs.Promise.{ticksIn, EachAccepted, Continues, targetOf, Stretched}
+use Rattle.promise.specs.Promise.{ticksIn, EachAccepted, Continues, Stretched}
 use Rattle.promise.proofs.Kept.{Good, good-levels, call-good, call-state}
 use Rattle.promise.proofs.Run.{run-arrives}
 

@@ -20,7 +20,7 @@ use Rattle.envelope.proofs.Settle.{settle-between}
 use Rattle.envelope.proofs.States.{move-bytes, one-tick, seen-restarts-nothing, never-held, never-parked, never-stops-after}
 use Rattle.board.specs.declared.Analog.{Analog}
 use Rattle.promise.specs.Calls.{Given, Call, givenOf, taken, nextOf, reachedOf}
-use Rattle.promise.specs.Levels.{Which, offsetAt, stateAt, levelAt, recordAt, moveAt}
+use Rattle.promise.specs.Levels.{Which, offsetAt, stateAt, levelAt, recordAt}
 use Rattle.promise.specs.Promise.{moveOf, tickedBy, ticksIn, EachAccepted, Carries, Continues, targetOf, acceptedIn, NotStopped}
 use Rattle.promise.proofs.Kept.{Good, good-levels, call-good, call-state, call-moves}
 

@@ -1,13 +1,12 @@
 -- A fresh board is within the ranges. Assumes nothing.
-use Prim.Native.Nat.{ℕ, zero, suc, _^_, _<_}
+use Prim.Native.Nat.{ℕ, _^_, _<_}
 use native.Mathlib.Omega.{arith}
-use mathlib.Core.Path.{_≡_, refl, sym, subst}
+use mathlib.Core.Path.{refl, sym, subst}
 use mathlib.Core.Bool.{Bool, true, false, cond}
-use mathlib.Core.List.{List}
-use lib.ListN.{getD, length, replicate, getD-replicate}
+use lib.ListN.{replicate, getD-replicate}
 use lib.Dec.{eqb}
 use lib.Ieee.{Float, binary32, nan, fits, le, lt, eq, neg, ofBits}
-use Rattle.line.proofs.Range.{In, in-self, in-of}
+use Rattle.line.proofs.Range.{in-of}
 use Rattle.float.specs.Consts.{k0, k1, k2, k0p5, kM128}
 use Rattle.envelope.specs.declared.Env.{Env}
 use Rattle.envelope.specs.Levels.{Level}

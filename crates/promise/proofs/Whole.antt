@@ -4,18 +4,19 @@ use Prim.Native.Nat.{ℕ, _^_, _≤_, _<_}
 use native.Mathlib.Omega.{arith}
 use mathlib.Core.Path.{_≡_, sym, subst}
 use mathlib.Core.Bool.{Bool}
-use mathlib.Core.List.{List, _++_}
+use mathlib.Core.List.{List}
 use lib.ListN.{getD}
 use lib.Dec.{T}
 use lib.IntN.{pos, natAbs}
 use lib.Ieee.{Float, binary32, ofBits, neg, fits, le, lt, eq}
-use Rattle.line.proofs.Range.{In, wideT, in-of, in-wide}
+use Rattle.line.proofs.Range.{In, wideT, in-wide}
 use Rattle.float.specs.Consts.{k0, k1, k127, kM128}
-use Rattle.envelope.specs.Levels.{Level, Equal}
+use Rattle.envelope.specs.Levels.{Equal}
+use Rattle.envelope.proofs.Ranges.{level-range}
 use Rattle.board.specs.declared.Analog.{Analog}
 use Rattle.board.specs.Board.{takenOf, freshOf}
-use Rattle.promise.specs.Calls.{Call, wordsOf, nextOf, reachedOf, Reached}
-use Rattle.promise.specs.Levels.{Which, levelAt, Osc, dual1, dual2, hatOsc, cymOsc, phaseAt}
+use Rattle.promise.specs.Calls.{Call, wordsOf, reachedOf, Reached}
+use Rattle.promise.specs.Levels.{levelAt, Osc, dual1, dual2, hatOsc, cymOsc, phaseAt}
 use Rattle.promise.specs.Promise.{EachAccepted, Continues, targetOf, Within, Promise, Beyond, Promised}
 use Rattle.promise.proofs.Kept.{Good, good-levels, call-moves}
 use Rattle.promise.proofs.Start.{fresh-good}
@@ -26,10 +27,6 @@ use Rattle.promise.proofs.Words.{words-in}
 -- a range that holds another
 within : (lo hi a b x : Float) → In binary32 a b x → T (wideT binary32 lo hi a b) → Within lo hi x
 within lo hi a b x i t = let k = in-wide binary32 lo hi i t in record { from = k .from; upto = k .upto }
-
-level-range : (x : Float) → Level x → In binary32 kM128 k127 x
-unfolding ofBits neg fits le lt eq
-level-range x h = in-of binary32 kM128 k127 x tt (h .f32) (h .low) (h .high)
 
 good-phases : (b : Analog) → Good b → (o : Osc) → In binary32 k0 k1 (phaseAt b o)
 unfolding takenOf

@@ -1,5 +1,4 @@
 -- Every receive word of every answer is within ±8,388,607. Assumes nothing.
-use Prim.Native.Nat.{ℕ}
 use mathlib.Core.Bool.{Bool, true, false}
 use mathlib.Core.List.{List}
 use lib.ListN.{set}

@@ -12,7 +12,7 @@ use lib.Ieee.Fits.{and-l, and-r}
 use Rattle.line.proofs.Range.{In, in-cond}
 use Rattle.line.proofs.Whole.{ofInt-in}
 use Rattle.lists.proofs.Sweep.{turns-keep}
-use Rattle.float.specs.Consts.{k0, k1, k10, k256, k440, k22000, k0p45, FS, TAU}
+use Rattle.float.specs.Consts.{k0, k10, k256, k440, k22000, k0p45}
 use Rattle.float.specs.Ops.{_⊖_, _⊗_, _⊘_}
 use Rattle.float.specs.Floats.{maxOf}
 use Rattle.float.proofs.Eval.{Ex, leaf, con, plus, minus, times, over, range, proves}
@@ -20,46 +20,41 @@ use Rattle.frame.proofs.Tables.{every, every-at}
 use Rattle.fixed.proofs.Order.{not-lt, a-number}
 use Rattle.power.specs.Power.{zeroF, expLow, tenLow, tenHigh}
 use Rattle.log10.specs.Log10.{least}
-use Rattle.comp.specs.Consts.{k20, k400, k1000, k2500, k0p000001, k0p00001, k0p2}
+use Rattle.comp.specs.Consts.{k20, k400, k1000, k2500, k0p000001, k0p2}
 use Rattle.comp.specs.Tables.{attacks, attackOf, releases, releaseOf, volRow, volRows}
 use Rattle.comp.specs.Comp.{volFirst, volTurn, volOf}
 use Rattle.comp.proofs.Volume.{below, below-at}
+use Rattle.ranges.specs.Arguments.{pole, kept, envelope, decibels}
 use Rattle.ranges.specs.Ranges.{InExp, InPow10, InLog10}
 use Rattle.ranges.proofs.Chain.{pole-call}
 
--- `poleOf` at 400 Hz
-pub low-pole-call : InExp (neg TAU ⊗ k400 ⊘ FS)
+-- the sidechain's low-passes
+pub low-pole-call : InExp (pole k400)
 low-pole-call = pole-call k400 (unfold ofBits proves in range k10 k22000 (con k400) tt)
 
--- `poleOf` at 2500 Hz
-pub high-pole-call : InExp (neg TAU ⊗ k2500 ⊘ FS)
+pub high-pole-call : InExp (pole k2500)
 high-pole-call = pole-call k2500 (unfold ofBits proves in range k10 k22000 (con k2500) tt)
 
--- ---- `coefOf` of each entry of a table: a test that is computed
-abbrev held : Float → Float
-held t = neg k1 ⊘ (maxOf t k0p00001 ⊗ FS)
-
+-- ---- attack and release: a test of each entry, which is computed
 abbrev holds : Float → Bool
-holds t = le expLow (held t) && le (held t) zeroF
+holds t = le expLow (kept t) && le (kept t) zeroF
 
-entry-in : (g : Float → Float) (xs : List Float) → T (every (λ (a : Float). holds (g a)) xs) → (i : ℕ) → i < length xs → InExp (held (g (getD xs i nan)))
+entry-in : (g : Float → Float) (xs : List Float) → T (every (λ (a : Float). holds (g a)) xs) → (i : ℕ) → i < length xs → InExp (kept (g (getD xs i nan)))
 entry-in g xs t i l =
-    let x = held (g (getD xs i nan)) in
+    let x = kept (g (getD xs i nan)) in
     let h = every-at (λ (a : Float). holds (g a)) xs nan t i l in
     (and-l (le expLow x) (le x zeroF) h, and-r (le expLow x) (le x zeroF) h)
 
--- `coefOf` of an attack
-pub attack-call : (b : ℕ) → InExp (neg k1 ⊘ (maxOf (attackOf b ⊘ k1000) k0p00001 ⊗ FS))
+pub attack-call : (b : ℕ) → InExp (kept (attackOf b ⊘ k1000))
 unfolding attackOf attacks
 attack-call b = entry-in (λ (a : Float). a ⊘ k1000) attacks (unfold maxOf ofBits neg mul div round lt le eq ne in tt) (min b 6) (omega arith)
 
--- `coefOf` of a release
-pub release-call : (b : ℕ) → InExp (neg k1 ⊘ (maxOf (k0p45 ⊗ releaseOf b) k0p00001 ⊗ FS))
+pub release-call : (b : ℕ) → InExp (kept (k0p45 ⊗ releaseOf b))
 unfolding releaseOf releases
 release-call b = entry-in (λ (a : Float). k0p45 ⊗ a) releases (unfold maxOf ofBits neg mul div round lt le eq ne in tt) (min b 7) (omega arith)
 
--- `levelOf`, of every value, not a number and the infinities too
-pub level-call : (env : Float) → InLog10 (maxOf env k0p000001)
+-- the envelope: of every value, not a number and the infinities too
+pub level-call : (env : Float) → InLog10 (envelope env)
 unfolding maxOf ofBits isNan
 level-call env = by (lt env k0p000001) (ne env env) (λ t. t) (λ t. t)
   where
@@ -97,8 +92,8 @@ module _ (v : Float) (h : In binary32 k0 k256 v) where
   unfolding volOf
   vol-in = turns-keep Decibels 8 (volTurn v) (volFirst v) turn-in first-in
 
--- the dry call of `gainOf`
-pub dry-call : (b : ℕ) → b < 256 → InPow10 (volOf (ofInt binary32 (pos b)) ⊘ k20)
+-- for every byte of VOL
+pub dry-call : (b : ℕ) → b < 256 → InPow10 (decibels (volOf (ofInt binary32 (pos b))))
 unfolding ofBits proves
 dry-call b h = let i = range tenLow tenHigh (over (leaf (vol-in (ofInt binary32 (pos b)) number-in)) k20) tt in (i .from, i .upto)
   where

@@ -1,2 +1,3 @@
--- The ranges.
+-- What a step gives to the curves, and the curves' ranges.
+pub mod Arguments
 pub mod Ranges

@@ -7,7 +7,7 @@ use lib.ListN.{length, replicate}
 use lib.IntN.{pos}
 use Rattle.board.specs.declared.Answer.{Answer}
 use Rattle.board.specs.Board.{freshOf, accepted}
-use Rattle.promise.specs.Calls.{Given, Call, step, answer, nextOf, reachedOf, answersOf}
+use Rattle.promise.specs.Calls.{Given, step, answer, nextOf, reachedOf, answersOf}
 use Rattle.promise.specs.Promise.{Promise, Beyond}
 use Rattle.recording.specs.declared.Playing.{Playing}
 use Rattle.recording.specs.declared.Played.{Played}

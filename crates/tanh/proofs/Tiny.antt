@@ -1,7 +1,7 @@
 -- Below 2 ^ -10 the argument itself is near: to the first order E is 1 + 2a, so that (E - 1) / (E + 1) is a, and what is left is of the order a². Assumes nothing.
 use mathlib.Core.Path.{_≡_, ap}
 use mathlib.Core.Bool.{Bool}
-use Prim.Native.Nat.{ℕ, _+_, _-_, _*_, _/_, _^_, _≤_, _<_}
+use Prim.Native.Nat.{ℕ, _+_, _-_, _*_, _^_, _≤_, _<_}
 use native.Mathlib.Nat.{le-trans, le-of-eq, mul-assoc, mul-left-comm, mul-add, add-mul, mul-pos, mul-le-mul-left, mul-le-mul-right, le-of-mul-le-mul-right, sub-add-cancel}
 use native.Mathlib.Omega.{arith}
 use lib.Dec.{lit<, lit≤}

@@ -1,5 +1,4 @@
 -- `board::step` meets its contract: the step where the refusal's number is 0, and else the refusal. Assumes nothing.
-use Prim.Native.Nat.{_≤_}
 use native.Mathlib.Omega.{arith}
 use mathlib.Core.Path.{sym, ap, _∙_}
 use borrow.Author.Tests.{eq-eqb, ne-eqb}

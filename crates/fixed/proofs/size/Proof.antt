@@ -1,9 +1,8 @@
 -- `fixed::size` meets its contract: the fields are those of proofs/Placed.antt. Assumes nothing.
-use mathlib.Core.Path.{_≡_, _∙_, sym, subst}
-use Prim.Native.Nat.{ℕ, _/_, _%_, _<_}
+use mathlib.Core.Path.{_∙_, sym, subst}
 use native.Mathlib.Omega.{arith}
 use lib.Dec.{T}
-use lib.Ieee.{binary32, fits, toBits}
+use lib.Ieee.{binary32, fits}
 use Rattle.fixed.proofs.Placed.{no-nan, tiny-size, told-from}
 use borrow.Author.Needs.{needs}
 use Rattle.fixed.proofs.size.Statement.{statement}

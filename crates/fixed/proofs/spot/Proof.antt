@@ -1,5 +1,5 @@
 -- `fixed::spot` meets its contract: the fields are those of proofs/Placed.antt. Assumes nothing.
-use mathlib.Core.Path.{_≡_, _∙_, sym, subst}
+use mathlib.Core.Path.{_∙_, sym, subst}
 use native.Mathlib.Omega.{arith}
 use lib.Dec.{T}
 use lib.Ieee.{binary32, fits}

@@ -1,6 +1,5 @@
 -- `power::exp2` meets its contract: each answer is its definition's, whose distance is `exp2-near`. Assumes nothing.
 use mathlib.Core.Path.{_≡_, sym, _∙_, subst}
-use mathlib.Core.Bool.{not, _&&_}
 use lib.Dec.{T}
 use lib.Ieee.{Float, ofBits, neg, div, lt, le, isNan}
 use lib.Ieee.Fits.{and-l, and-r}

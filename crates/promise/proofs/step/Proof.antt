@@ -1,5 +1,4 @@
 -- `promise::step` meets its contract: the board's answer, which is that of a call, since what a caller lends as a `&[u8]` is a list of bytes. Assumes nothing.
-use Prim.Native.Nat.{ℕ}
 use native.Mathlib.Omega.{arith}
 use Rattle.frame.specs.Frame.{Bytes}
 use Rattle.promise.proofs.Calls.{step-answers}

@@ -228,8 +228,8 @@ impl Chain {
         let i = Settings::read(f, v);
         let rf = i.rf;
         let ra = i.ra;
-        let flt = self.flt.tick(rf, false);
-        let amp = self.amp.tick(ra, true);
+        let flt = self.flt.filter(rf);
+        let amp = self.amp.amp(ra);
         let fc = cutoff(i.frq, i.depth, flt.level);
         let s = run_filter(self, i, fc, overdrive(i.ovr, x));
         ChainOut {

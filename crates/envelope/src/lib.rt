@@ -1,6 +1,6 @@
 // Envelope records, and the envelopes that follow them: Env (dual voices, hat, cymbal) and SegEnv (a chain's amp and filter).
 ghost use mathlib.Core.Path.{_≡_};
-ghost use mathlib.Core.Bool.{Bool, true, false, cond, not, _&&_, _||_};
+ghost use mathlib.Core.Bool.{Bool, true, false, not, _&&_, _||_};
 ghost use Prim.Native.Nat.{_+_, _*_, _/_, _≤_, _<_};
 ghost use Rattle.envelope.specs.Record.{levelOf, expOf, mantOf, modeOf, rateOf, stepOf, recordOf, tickOf};
 ghost use Rattle.envelope.specs.Moves.{settledBy, alike, dualOf, hitOf, keyOf, sameKey, holdOf, segOf};
@@ -197,37 +197,40 @@ pub struct SegEnv {
     pub cmd: bool,
 }
 
-// One of two marks, without a branch in the caller.
-fn choose(c: bool, a: bool, b: bool) -> bool
-    ensures { λ r. ⌜ r ≡ cond c a b ⌝ }
-{
-    if c { a } else { b }
-}
-
 impl SegEnv {
-    // `cmd_word`: the record's first word is a start command (the amp's), not a depth (the filter's). The amp starts on the command after a record
-    // without it, the filter on a changed key with mode 9 or F.
-    pub fn tick(self, r: [u8; 8], cmd_word: bool) -> SegEnv
-        ensures { λ x. ⌜ x ≡ segOf «cmd_word» r self ⌝ }
+    // The amp's, whose record begins with a start command: the command after a record without it starts the segment.
+    pub fn amp(self, r: [u8; 8]) -> SegEnv
+        ensures { λ x. ⌜ x ≡ segOf true r self ⌝ }
+    {
+        let rec = Record::parse(r);
+        let key = Key::of(r);
+        let restarted = rec.start_cmd & !self.cmd;
+        let stood = float::choose(restarted, rec.start, self.level);
+        let hold = hold_of(mode_of(r), key.rate, rec.target - stood, self.hold);
+        SegEnv {
+            key,
+            level: settled(rec, restarted, hold, false, self.level),
+            hold,
+            cmd: rec.start_cmd,
+        }
+    }
+
+    // The filter's, whose record begins with a depth: a changed key with mode 9 or F starts the segment.
+    pub fn filter(self, r: [u8; 8]) -> SegEnv
+        ensures { λ x. ⌜ x ≡ segOf false r self ⌝ }
     {
         let rec = Record::parse(r);
         let key = Key::of(r);
         let mode = mode_of(r);
         let was = self.key;
-        let restarted = choose(
-            cmd_word,
-            rec.start_cmd & !self.cmd,
-            !key.same(was) & ((mode == 9) | (mode == 15)),
-        );
+        let restarted = !key.same(was) & ((mode == 9) | (mode == 15));
         let stood = float::choose(restarted, rec.start, self.level);
         let hold = hold_of(mode, key.rate, rec.target - stood, self.hold);
-        let level = settled(rec, restarted, hold, false, self.level);
-        let cmd = choose(cmd_word, rec.start_cmd, self.cmd);
         SegEnv {
             key,
-            level,
+            level: settled(rec, restarted, hold, false, self.level),
             hold,
-            cmd,
+            cmd: self.cmd,
         }
     }
 }

@@ -17,8 +17,8 @@ use Rattle.line.proofs.Mono.{Good, good-is, units-of, le→under, under→le, n
 use Rattle.line.proofs.Range.{In, in-add, in-mul, in-self, in-cond, cut-high, cut-low, lt→le, not-lt}
 use Rattle.line.proofs.Rem.{Part, one, nought, nought-is, nought-good, nought-in, rem-is, rem-part, part-unit, part-both, part-lt, part-plus}
 use Rattle.line.proofs.Whole.{cut-within}
-use Rattle.float.specs.Consts.{k0, k1, k8388607}
-use Rattle.float.specs.Floats.{absOf, signumOf, clampOf, fractOf, remEuclidOf, to24Of}
+use Rattle.float.specs.Consts.{k0, k1}
+use Rattle.float.specs.Floats.{absOf, signumOf, clampOf, fractOf, remEuclidOf, FULL-SCALE, to24Of}
 use Rattle.float.proofs.Eval.{in-clamp}
 
 -- ---- fract
@@ -82,8 +82,8 @@ word-in nan f = unfold clampOf mul toSigned lt in lit≤ tt
 word-in (inf true) f = unfold clampOf mul toSigned lt neg in lit≤ tt
 word-in (inf false) f = unfold clampOf mul toSigned lt neg in lit≤ tt
 word-in (fin s m e) f = unfold fits mul neg le lt eq in
-    let h = in-mul binary32 (fin true 8388607 (pos 0)) (fin false 8388607 (pos 0)) (in-clamp binary32 (neg k1) k1 (fin s m e) (f, tt) (neg k1) k1 tt) (in-self binary32 k8388607 tt) tt in
-    cut-within 31 8388607 (mul binary32 (clampOf (fin s m e) (neg k1) k1) k8388607) (h .from) (h .upto)
+    let h = in-mul binary32 (fin true 8388607 (pos 0)) (fin false 8388607 (pos 0)) (in-clamp binary32 (neg k1) k1 (fin s m e) (f, tt) (neg k1) k1 tt) (in-self binary32 FULL-SCALE tt) tt in
+    cut-within 31 8388607 (mul binary32 (clampOf (fin s m e) (neg k1) k1) FULL-SCALE) (h .from) (h .upto)
 
 -- ---- abs and signum of a finite number
 pub abs-is : (f : Format) (x : Float) (s : Bool) (q : ℕ) → Is f x s q → Is f (absOf x) false q

@@ -1,8 +1,8 @@
 -- The remainder by 1 as the code finds it: below 1 it is the number itself, below 2^23 the number less its whole part, and from there on nothing. Assumes nothing.
 use mathlib.Core.Path.{_≡_, refl, sym, ap, _∙_, subst}
-use mathlib.Core.Bool.{Bool, true, false, not, _&&_, cond}
+use mathlib.Core.Bool.{Bool, true, false, not, cond}
 use Prim.Native.Nat.{ℕ, suc, _+_, _-_, _*_, _/_, _%_, _^_, _<_, _≤_, min}
-use native.Mathlib.Nat.{mod-eq-of-lt, mod-one, mul-one, mul-assoc, mul-comm, mul-right-comm, mul-div-cancel, mul-pos, sub-self, zero-mul, le-refl, add-zero, mul-le-mul-right, mod-lt, mod-add-div', add-mul-mod-self-right, div-lt-iff-lt-mul, pow-succ'}
+use native.Mathlib.Nat.{mod-eq-of-lt, mod-one, mul-one, mul-assoc, mul-comm, mul-right-comm, mul-div-cancel, mul-pos, sub-self, zero-mul, le-refl, mul-le-mul-right, mod-lt, mod-add-div', add-mul-mod-self-right, div-lt-iff-lt-mul, pow-succ'}
 use native.Mathlib.Omega.{arith}
 use lib.Dec.{T, ltb, lit<}
 use lib.IntN.{ℤ, pos, negsuc}
@@ -11,15 +11,13 @@ use lib.Ieee.{Float, Format, binary32, nan, inf, fin, prec, low, hid, top, size,
 use lib.Ieee.Back.{round-whole}
 use lib.Ieee.Bits.{ofBits-toBits}
 use lib.Ieee.Exact.{HasValue}
-use lib.Ieee.Fits.{down-pos, add-fits, rem-fits}
+use lib.Ieee.Fits.{down-pos, rem-fits}
 use lib.Ieee.Scale.{round-same}
 use borrow.Author.Tests.{ltb-true, ltb-false, le-ltb}
-use Rattle.line.proofs.Units.{Is, add-is, sub-mul}
+use Rattle.line.proofs.Units.{Is, sub-mul}
 use Rattle.line.proofs.Rounds.{rep-same, exact-at}
 use Rattle.line.proofs.Mono.{Good, good-is, units-of, neg-round}
-use Rattle.line.proofs.Rem.{one, nought, nought-is, rem-is, fits-parts}
-use Rattle.float.specs.Consts.{k1}
-use Rattle.float.specs.Floats.{fractOf, remEuclidOf}
+use Rattle.line.proofs.Rem.{one, nought, rem-is, fits-parts}
 
 no : {X : Type 0} → false ≡ true → X
 no e = let z : _≡_ {A = ℕ} 0 1 = ap (λ (b : Bool). cond b 1 0) e in absurd (omega arith)
@@ -172,44 +170,3 @@ rem-turned (inf true) h = unfold rem in refl
 rem-turned (inf false) h = no h
 rem-turned (fin false m e) h = let p = ltb-true (m * up e * 1) (0 * 1 * down e) h in absurd (omega arith)
 rem-turned (fin true m e) h = ap neg (rem-is binary32 false m e) ∙ sym (neg-round binary32 (m * up e % down e) (down e)) ∙ sym (rem-is binary32 true m e)
-
--- ---- between 0 and 1 nothing changes
-pub both : (a b : Bool) → (a && b) ≡ true → (a ≡ true) × (b ≡ true)
-both true true e = (refl, refl)
-both true false e = no e
-both false b e = no e
-
-not-negative : (x : Float) → lt nought x ≡ true → lt x nought ≡ false
-unfolding lt
-not-negative nan h = no h
-not-negative (inf true) h = no h
-not-negative (inf false) h = refl
-not-negative (fin true m e) h = no h
-not-negative (fin false m e) h = le-ltb (m * up e * 1) (0 * 1 * down e) (omega arith)
-
-sum-nought : (q : ℕ) → sum binary32 false q false 0 (2 ^ low binary32) ≡ round binary32 false q (2 ^ low binary32)
-unfolding sum
-sum-nought q = ap (λ (z : ℕ). round binary32 false z (2 ^ low binary32)) (add-zero q)
-
-plus-nought : (x : Float) → T (fits binary32 x) → lt nought x ≡ true → lt x one ≡ true → add binary32 x nought ≡ x
-unfolding lt
-plus-nought nan t h k = no h
-plus-nought (inf true) t h k = no h
-plus-nought (inf false) t h k = no k
-plus-nought (fin true m e) t h k = no h
-plus-nought (fin false m e) t h k =
-    let x = fin false m e in
-    let g : Good binary32 x = (t, tt) in
-    let q = units-of binary32 x g in
-    let i : Is binary32 x false q = good-is binary32 x g in
-    let r : add binary32 x nought ≡ round binary32 false q (2 ^ low binary32) = add-is binary32 x nought false q false 0 i (nought-is binary32) ∙ sum-nought q in
-    same binary32 (add binary32 x nought) x false q (add-fits binary32 x nought) t
-    (subst (λ (z : Float). Is binary32 z false q) (sym r) (exact-at binary32 false q (rep-same binary32 x false q t i))) i
-
-pub fract-between : (x : Float) → T (fits binary32 x) → lt nought x ≡ true → lt x one ≡ true → x ≡ fractOf x
-unfolding fractOf lib.Ieee.ofBits
-fract-between x t h k = sym (plus-nought x t h k) ∙ ap (λ (y : Float). add binary32 y nought) (rem-below-one x t (not-negative x h) k)
-
-pub rem-euclid-between : (x : Float) → T (fits binary32 x) → lt nought x ≡ true → lt x one ≡ true → x ≡ remEuclidOf x k1
-unfolding remEuclidOf lib.Ieee.ofBits
-rem-euclid-between x t h k = rw (← rem-below-one x t (not-negative x h) k, not-negative x h)

@@ -36,6 +36,10 @@ fractOf x = add binary32 (rem binary32 x k1) k0
 unfoldable pub remEuclidOf : Float → Float → Float
 remEuclidOf x y = let r = rem binary32 x y in cond (lt r k0) (add binary32 r (absOf y)) r
 
+-- the word of a sample of 1
+abbrev pub FULL-SCALE : Float
+FULL-SCALE = k8388607
+
 -- "To a word": clamped to ±1, times 8388607, cut toward zero; not a number gives 0
 unfoldable pub to24Of : Float → ℤ
-to24Of x = toSigned 31 (mul binary32 (clampOf x (neg k1) k1) k8388607)
+to24Of x = toSigned 31 (mul binary32 (clampOf x (neg k1) k1) FULL-SCALE)

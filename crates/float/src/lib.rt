@@ -115,23 +115,16 @@ fn rem_one(x: f32) -> f32
     part(x)
 }
 
-// A phase that stays between 0 and 1 needs no more than the two comparisons.
 pub fn fract(x: f32) -> f32
     ensures { λ r. ⌜ r ≡ fractOf x ⌝ }
 {
-    if (0.0 < x) & (x < 1.0) {
-        return x;
-    }
     rem_one(x) + 0.0
 }
 
-// `x.rem_euclid(1.0)`, likewise.
+// `x.rem_euclid(1.0)`
 pub fn rem_euclid_one(x: f32) -> f32
     ensures { λ r. ⌜ r ≡ remEuclidOf x k1 ⌝ }
 {
-    if (0.0 < x) & (x < 1.0) {
-        return x;
-    }
     let r = rem_one(x);
     if r < 0.0 { r + 1.0 } else { r }
 }
@@ -175,11 +168,14 @@ pub fn to_i32(y: f32) -> i32
     2147483647
 }
 
+// The word of a sample of 1.
+const FULL_SCALE: f32 = 8388607.0;
+
 // A sample as a 24-bit word.
 pub fn to24(x: f32) -> i32
     ensures { λ r. ⌜ r ≡ to24Of x ⌝ }
 {
-    to_i32(clamp(x, -1.0, 1.0) * 8388607.0)
+    to_i32(clamp(x, -1.0, 1.0) * FULL_SCALE)
 }
 
 pub fn saturating_add(a: u32, b: u32) -> u32

@@ -7,11 +7,11 @@ use Rattle.chain.proofs.Chain.process.Tie as tie
 read-requires : tie.Need-read-requires
 read-requires c κs = search needs
 
-tick-requires : tie.Need-tick-requires
-tick-requires c κs = search needs
+filter-requires : tie.Need-filter-requires
+filter-requires c κs = search needs
 
-tick-requires-2 : tie.Need-tick-requires-2
-tick-requires-2 c κs = search needs
+amp-requires : tie.Need-amp-requires
+amp-requires c κs = search needs
 
 cutoff-requires : tie.Need-cutoff-requires
 cutoff-requires c κs = search needs
@@ -27,15 +27,15 @@ gain-requires c κs = search needs
 
 returns : tie.Need-returns
 unfolding processOf
-returns c = rw (← c .before .before .before .before .before .before .before .before .before .read .ensures, ← c .before .before .before .before .before .before .tick .ensures, ← c .before .before .before .before .before .tick2 .ensures, ← c .before .before .before .before .cutoff .ensures, ← c .before .before .before .overdrive .ensures, ← c .before .before .run-filter .ensures, ← c .before .gain .ensures)
+returns c = rw (← c .before .before .before .before .before .before .before .before .before .read .ensures, ← c .before .before .before .before .before .before .filter .ensures, ← c .before .before .before .before .before .amp .ensures, ← c .before .before .before .before .cutoff .ensures, ← c .before .before .before .overdrive .ensures, ← c .before .before .run-filter .ensures, ← c .before .gain .ensures)
 
 pub process-spec : {M : Type 1} → statement M
 process-spec =
     tie.close
     (tie.spec
     read-requires
-    tick-requires
-    tick-requires-2
+    filter-requires
+    amp-requires
     cutoff-requires
     overdrive-requires
     run-filter-requires

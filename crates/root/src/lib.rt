@@ -31,27 +31,12 @@ fn guess(p: u32) -> u64
     16777215
 }
 
-// g, or the number beside it that lies nearer to the root of q: compiled without a branch.
-fn settled(q: u64, g: u64) -> u64
-    requires { ⌜ (0 < q) × (q < 281474976710656) × (g < 16777216) ⌝ }
-    ensures { λ r. ⌜ r ≤ 16777216 ⌝ }
-{
-    let s = g * g;
-    if s + g < q {
-        return g + 1;
-    }
-    if q + g <= s {
-        return g - 1;
-    }
-    g
-}
-
-// The whole number nearest to the root of q, counted up or down from there.
+// The whole number nearest to the root of q, counted up or down from g.
 fn nearest_root(q: u64, g: u64) -> u64
     requires { ⌜ (0 < q) × (q < 281474976710656) × (g < 16777216) ⌝ }
     ensures { λ r. ⌜ r ≡ nearestRoot q ⌝ }
 {
-    let mut n = settled(q, g);
+    let mut n = g;
     while q + n <= n * n {
         n -= 1;
     }

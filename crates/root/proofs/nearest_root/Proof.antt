@@ -1,12 +1,13 @@
 -- `root::nearest_root` meets its contract. The first loop ends where n² < q + n, and the second keeps that; it ends where q ≤ n² + n. Assumes nothing.
-use Prim.Native.Nat.{_+_, _-_, _*_, _≤_, _<_}
+use Prim.Native.Nat.{ℕ, zero, suc, _+_, _-_, _*_, _≤_, _<_}
+use native.Mathlib.Nat.{mul-le-mul}
 use native.Mathlib.Omega.{arith}
-use Rattle.root.proofs.Whole.{root-is, one-nearest, root-lt, square-le, above}
+use Rattle.root.proofs.Whole.{root-is, one-nearest, root-lt}
 use Rattle.root.proofs.nearest_root.Statement.{statement}
 use Rattle.root.proofs.nearest_root.Tie as tie
 
 abbrev Inv-loop : tie.InvT-loop
-Inv-loop q g n₀ n = (n ≤ 16777216)
+Inv-loop q g n₀ n = (n < 16777216)
 
 abbrev μ-loop : tie.MeasureT-loop
 μ-loop q g n₀ n = n
@@ -17,11 +18,15 @@ Inv-loop2 q g n₀ n = (n * n < q + n) × (n ≤ 16777216)
 abbrev μ-loop2 : tie.MeasureT-loop2
 μ-loop2 q g n₀ n = 16777216 - n
 
-settled-requires : tie.Need-settled-requires Inv-loop μ-loop Inv-loop2 μ-loop2
-settled-requires c κs = omega arith
+square-le : (n : ℕ) → n ≤ 16777216 → n * n ≤ 281474976710656
+square-le n h = mul-le-mul h h
+
+above : (n : ℕ) → 0 < n * n → 1 ≤ n
+above zero h = omega arith
+above (suc n) h = omega arith
 
 loop-holds : tie.Need-loop-holds Inv-loop μ-loop Inv-loop2 μ-loop2
-loop-holds c = omega (arith, c .settled .ensures)
+loop-holds c = omega arith
 
 add-loop : tie.Need-add-loop Inv-loop μ-loop Inv-loop2 μ-loop2
 add-loop c = omega arith
@@ -58,7 +63,7 @@ loop2-again c = omega (arith, root-lt (c .before .loop2 .n) (omega arith))
 
 returns : tie.Need-returns Inv-loop μ-loop Inv-loop2 μ-loop2
 returns c =
-    let q = c .before .before .before .before .before .args .q in
+    let q = c .before .before .before .before .args .q in
     one-nearest q (c .before .loop2 .n) _ (record { past = omega arith; short = omega arith }) (root-is q (omega arith) (omega arith))
 
 pub nearest-root-spec : {M : Type 1} → statement M
@@ -69,7 +74,6 @@ nearest-root-spec =
     μ-loop
     Inv-loop2
     μ-loop2
-    settled-requires
     loop-holds
     add-loop
     mul-loop

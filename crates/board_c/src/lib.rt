@@ -43,7 +43,7 @@ pub extern "C" fn rytm_step(
         },
         ext: Mix { l: ext_l, r: ext_r },
     };
-    let a = promise::step(board, frame, dac, fx, x);
+    let a = board::step(board, frame, dac, fx, x);
     let outcome = a.outcome;
     let rx = a.rx;
     let mix = a.mix;

@@ -1,8 +1,8 @@
--- The remainder by 1 as the code finds it: below 1 it is the number itself, below 2^23 the number less its whole part, and from there on nothing. Assumes nothing.
+-- The remainder by 1 as the code finds it: below 1 it is the number itself, below 2^23 the number less its whole part, and from there on nothing; and a number plus +0. Assumes nothing.
 use mathlib.Core.Path.{_≡_, refl, sym, ap, _∙_, subst}
 use mathlib.Core.Bool.{Bool, true, false, not, cond}
 use Prim.Native.Nat.{ℕ, suc, _+_, _-_, _*_, _/_, _%_, _^_, _<_, _≤_, min}
-use native.Mathlib.Nat.{mod-eq-of-lt, mod-one, mul-one, mul-assoc, mul-comm, mul-right-comm, mul-div-cancel, mul-pos, sub-self, zero-mul, le-refl, mul-le-mul-right, mod-lt, mod-add-div', add-mul-mod-self-right, div-lt-iff-lt-mul, pow-succ'}
+use native.Mathlib.Nat.{add-zero, mod-eq-of-lt, mod-one, mul-one, mul-assoc, mul-comm, mul-right-comm, mul-div-cancel, mul-pos, sub-self, zero-mul, le-refl, mul-le-mul-right, mod-lt, mod-add-div', add-mul-mod-self-right, div-lt-iff-lt-mul, pow-succ'}
 use native.Mathlib.Omega.{arith}
 use lib.Dec.{T, ltb, lit<}
 use lib.IntN.{ℤ, pos, negsuc}
@@ -11,13 +11,13 @@ use lib.Ieee.{Float, Format, binary32, nan, inf, fin, prec, low, hid, top, size,
 use lib.Ieee.Back.{round-whole}
 use lib.Ieee.Bits.{ofBits-toBits}
 use lib.Ieee.Exact.{HasValue}
-use lib.Ieee.Fits.{down-pos, rem-fits}
+use lib.Ieee.Fits.{down-pos, add-fits, rem-fits}
 use lib.Ieee.Scale.{round-same}
 use borrow.Author.Tests.{ltb-true, ltb-false, le-ltb}
-use Rattle.line.proofs.Units.{Is, sub-mul}
+use Rattle.line.proofs.Units.{Is, add-is, sub-mul}
 use Rattle.line.proofs.Rounds.{rep-same, exact-at}
 use Rattle.line.proofs.Mono.{Good, good-is, units-of, neg-round}
-use Rattle.line.proofs.Rem.{one, nought, rem-is, fits-parts}
+use Rattle.line.proofs.Rem.{one, nought, nought-is, rem-is, fits-parts}
 
 no : {X : Type 0} → false ≡ true → X
 no e = let z : _≡_ {A = ℕ} 0 1 = ap (λ (b : Bool). cond b 1 0) e in absurd (omega arith)
@@ -36,6 +36,19 @@ pattern-is f (fin t m e) s q h =
 
 same : (f : Format) (x y : Float) (s : Bool) (q : ℕ) → T (fits f x) → T (fits f y) → Is f x s q → Is f y s q → x ≡ y
 same f x y s q t u h k = sym (ofBits-toBits f x t) ∙ ap (ofBits f) (pattern-is f x s q h ∙ sym (pattern-is f y s q k)) ∙ ofBits-toBits f y u
+
+-- ---- adding +0 changes nothing but -0
+pub plus-nought : (m : ℕ) (e : ℤ) → T (fits binary32 (fin false m e)) → add binary32 (fin false m e) nought ≡ fin false m e
+unfolding sum
+plus-nought m e t =
+    let x = fin false m e in
+    let g : Good binary32 x = (t, tt) in
+    let q = units-of binary32 x g in
+    let i : Is binary32 x false q = good-is binary32 x g in
+    let r : add binary32 x nought ≡ round binary32 false q (2 ^ low binary32) =
+    add-is binary32 x nought false q false 0 i (nought-is binary32) ∙ ap (λ (z : ℕ). round binary32 false z (2 ^ low binary32)) (add-zero q) in
+    same binary32 (add binary32 x nought) x false q (add-fits binary32 x nought) t
+    (subst (λ (z : Float). Is binary32 z false q) (sym r) (exact-at binary32 false q (rep-same binary32 x false q t i))) i
 
 -- ---- below 1: the number itself
 own : (s : Bool) (m : ℕ) (e : ℤ) → T (fits binary32 (fin s m e)) → m * up e < down e → fin s m e ≡ rem binary32 (fin s m e) one

@@ -7,10 +7,11 @@ use native.Mathlib.Omega.{arith}
 use lib.Dec.{T, eqb, eqb→eq}
 use lib.IntN.{ℤ, pos, negsuc}
 use lib.Pow.{pow-lt}
-use lib.Ieee.{Float, binary32, nan, inf, fin, up, down, lt, eq, neg, div, fits}
+use lib.Ieee.{Float, binary32, nan, inf, fin, up, down, lt, eq, neg, add, div, fits}
 use lib.Ieee.Fits.{up-pos}
 use borrow.Author.Tests.{ltb-true, ltb-false, eqb-true, eq-eqb}
 use Rattle.float.specs.Floats.{absOf, signumOf}
+use Rattle.float.proofs.Remainder.{plus-nought}
 
 no : {X : Type 0} → false ≡ true → X
 no e = let z : _≡_ {A = ℕ} 0 1 = ap (λ (b : Bool). cond b 1 0) e in absurd (omega arith)
@@ -41,15 +42,17 @@ and-left false b e = e
 big : (m : ℕ) (e : ℤ) → 0 < suc m * up e
 big m e = mul-pos (omega arith) (up-pos e)
 
-pub abs-zero : (x : Float) → T (fits binary32 x) → eq x zero+ ≡ true → zero+ ≡ absOf x
-unfolding eq absOf fits
-abs-zero nan f h = no h
-abs-zero (inf true) f h = no h
-abs-zero (inf false) f h = no h
-abs-zero (fin s zero e) f h = ap (fin false 0) (sym (flat e (eqb→eq (up e * down e) 1 f)))
-abs-zero (fin s (suc m) e) f h =
+-- what is not below zero, plus +0, is its size
+pub abs-plus : (x : Float) → T (fits binary32 x) → lt x zero+ ≡ false → add binary32 x zero+ ≡ absOf x
+unfolding lt add absOf fits
+abs-plus nan t h = refl
+abs-plus (inf true) t h = no (sym h)
+abs-plus (inf false) t h = refl
+abs-plus (fin false m e) t h = plus-nought m e t
+abs-plus (fin true zero e) t h = rw (flat e (eqb→eq (up e * down e) 1 t)) refl
+abs-plus (fin true (suc m) e) t h =
     let b = big m e in
-    let q = eqb-true (suc m * up e * 1) (0 * down e) (and-left (eqb (suc m * up e * 1) (0 * down e)) _ h) in
+    let q = ltb-false 0 (suc m * up e * 1 + 0 * down e) h in
     absurd (omega arith)
 
 -- two zeros are level
@@ -58,16 +61,6 @@ clash a b s p q l = no (sym (level-by (eqb a b) (eqb a 0) (eq-eqb a b (p ∙ sym
   where
     level-by : (t u : Bool) → t ≡ true → u ≡ true → (t && (s || u)) ≡ false → true ≡ false
     level-by t u e f g = sym (ap (λ (v : Bool). v && (s || u)) e ∙ ap (λ (v : Bool). s || v) f ∙ or-true s) ∙ g
-
--- what is neither below zero nor equal to it is its own size
-pub abs-else : (x : Float) → lt x zero+ ≡ false → eq x zero+ ≡ false → x ≡ absOf x
-unfolding lt eq absOf
-abs-else nan h l = refl
-abs-else (inf true) h l = no (sym h)
-abs-else (inf false) h l = refl
-abs-else (fin false m e) h l = refl
-abs-else (fin true m e) h l =
-    let q = ltb-false 0 (m * up e * 1 + 0 * down e) h in clash (m * up e * 1) (0 * down e) false (omega arith) (omega arith) l
 
 -- what neither test nor equality finds is no number
 pub abs-none : (x : Float) → lt x zero+ ≡ false → lt zero+ x ≡ false → eq x zero+ ≡ false → x ≡ nan

@@ -17,16 +17,11 @@ pub const PI: f32 = 3.1415927;
 // Envelope levels per 6 dB.
 pub const LEVELS_PER_6DB: f32 = 16.0;
 
+// Adding +0 turns -0 into +0 and changes nothing else.
 pub fn abs(x: f32) -> f32
     ensures { λ r. ⌜ r ≡ absOf x ⌝ }
 {
-    if x < 0.0 {
-        -x
-    } else if x == 0.0 {
-        0.0
-    } else {
-        x
-    }
+    if x < 0.0 { -x } else { x + 0.0 }
 }
 
 // The sign of a zero is that of one over it.

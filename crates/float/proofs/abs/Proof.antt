@@ -1,8 +1,8 @@
--- `float::abs` meets its contract: each answer by the tests that led to it. Assumes nothing.
+-- `float::abs` meets its contract: each answer by the test that led to it. Assumes nothing.
 use lib.Ieee.{ofBits}
 use mathlib.Core.Path.{subst, sym}
 use lib.Dec.{T}
-use Rattle.float.proofs.Signs.{abs-below, abs-zero, abs-else}
+use Rattle.float.proofs.Signs.{abs-below, abs-plus}
 use Rattle.float.proofs.abs.Statement.{statement}
 use Rattle.float.proofs.abs.Tie as tie
 
@@ -12,11 +12,7 @@ returns c = abs-below (c .before .args .x) (c .if1 .taken)
 
 returns-2 : tie.Need-returns-2
 unfolding ofBits
-returns-2 c = abs-zero (c .before .before .args .x) (subst T (sym (c .before .before .good .0 .1)) tt) (c .if2 .taken)
-
-returns-3 : tie.Need-returns-3
-unfolding ofBits
-returns-3 c = abs-else (c .before .before .args .x) (c .before .if1 .left) (c .if2 .left)
+returns-2 c = abs-plus (c .before .args .x) (subst T (sym (c .before .good .0 .1)) tt) (c .if1 .left)
 
 pub abs-spec : {M : Type 1} → statement M
-abs-spec = tie.close (tie.spec returns returns-2 returns-3)
+abs-spec = tie.close (tie.spec returns returns-2)

@@ -92,6 +92,13 @@ holdOf mode rate d was =
     (cond (eqb mode 0) (eqb rate 0 || was)
     (cond (ramps mode) false was))
 
+-- what `SegEnv::moved` gives: restarted or not, then held or not by where the level stands then, then settled
+unfoldable pub movedBy : Record → Key → ℕ → Bool → Bool → SegEnv → SegEnv
+movedBy rec key mode restarted cmd e =
+    let x = cond restarted (rec .start) (e .level) in
+    let held = holdOf mode (key .rate) (sub binary32 (rec .target) x) (e .hold) in
+    record { key = key; level = settledBy rec restarted held false (e .level); hold = held; cmd = cmd }
+
 -- restarted or not, then held or not by where the level stands then
 unfoldable pub segMove : Bool → List ℕ → SegEnv → Move
 segMove amp r e =

@@ -3,7 +3,7 @@ ghost use mathlib.Core.Path.{_≡_};
 ghost use mathlib.Core.Bool.{Bool, true, false, not, _&&_, _||_};
 ghost use Prim.Native.Nat.{_+_, _*_, _/_, _≤_, _<_};
 ghost use Rattle.envelope.specs.Record.{levelOf, expOf, mantOf, modeOf, rateOf, stepOf, recordOf, tickOf};
-ghost use Rattle.envelope.specs.Moves.{settledBy, alike, dualOf, hitOf, keyOf, sameKey, holdOf, segOf};
+ghost use Rattle.envelope.specs.Moves.{settledBy, alike, dualOf, hitOf, keyOf, sameKey, holdOf, movedBy, segOf};
 
 // One 8-byte record. Its first word is a command: not zero starts the segment.
 #[repr(C)]
@@ -198,21 +198,28 @@ pub struct SegEnv {
 }
 
 impl SegEnv {
+    // After a record with this key and mode, which restarts it or not; `cmd` is what it keeps of the start command.
+    fn moved(self, rec: Record, key: Key, mode: u8, restarted: bool, cmd: bool) -> SegEnv
+        ensures { λ x. ⌜ x ≡ movedBy rec key mode restarted cmd self ⌝ }
+    {
+        let stood = float::choose(restarted, rec.start, self.level);
+        let hold = hold_of(mode, key.rate, rec.target - stood, self.hold);
+        SegEnv {
+            key,
+            level: settled(rec, restarted, hold, false, self.level),
+            hold,
+            cmd,
+        }
+    }
+
     // The amp's, whose record begins with a start command: the command after a record without it starts the segment.
     pub fn amp(self, r: [u8; 8]) -> SegEnv
         ensures { λ x. ⌜ x ≡ segOf true r self ⌝ }
     {
         let rec = Record::parse(r);
         let key = Key::of(r);
-        let restarted = rec.start_cmd & !self.cmd;
-        let stood = float::choose(restarted, rec.start, self.level);
-        let hold = hold_of(mode_of(r), key.rate, rec.target - stood, self.hold);
-        SegEnv {
-            key,
-            level: settled(rec, restarted, hold, false, self.level),
-            hold,
-            cmd: rec.start_cmd,
-        }
+        let cmd = rec.start_cmd;
+        self.moved(rec, key, mode_of(r), cmd & !self.cmd, cmd)
     }
 
     // The filter's, whose record begins with a depth: a changed key with mode 9 or F starts the segment.
@@ -224,13 +231,6 @@ impl SegEnv {
         let mode = mode_of(r);
         let was = self.key;
         let restarted = !key.same(was) & ((mode == 9) | (mode == 15));
-        let stood = float::choose(restarted, rec.start, self.level);
-        let hold = hold_of(mode, key.rate, rec.target - stood, self.hold);
-        SegEnv {
-            key,
-            level: settled(rec, restarted, hold, false, self.level),
-            hold,
-            cmd: self.cmd,
-        }
+        self.moved(rec, key, mode, restarted, self.cmd)
     }
 }

@@ -1,5 +1,5 @@
--- `envelope::SegEnv::amp` meets its contract: its move, settled. Assumes nothing.
-use Rattle.envelope.specs.Moves.{settle, segStarts, segMove, segOf}
+-- `envelope::SegEnv::amp` meets its contract: what restarts it, and the rest as any envelope of a chain. Assumes nothing.
+use Rattle.envelope.specs.Moves.{settle, segStarts, segMove, movedBy, segOf}
 use borrow.Author.Needs.{needs}
 use Rattle.envelope.proofs.SegEnv.amp.Statement.{statement}
 use Rattle.envelope.proofs.SegEnv.amp.Tie as tie
@@ -10,30 +10,17 @@ parse-requires c κs = search needs
 of-requires : tie.Need-of-requires
 of-requires c κs = search needs
 
-choose-requires : tie.Need-choose-requires
-choose-requires c κs = search needs
-
 mode-of-requires : tie.Need-mode-of-requires
 mode-of-requires c κs = search needs
 
-hold-of-requires : tie.Need-hold-of-requires
-hold-of-requires c κs = search needs
-
-settled-requires : tie.Need-settled-requires
-settled-requires c κs = search needs
+moved-requires : tie.Need-moved-requires
+moved-requires c κs = search needs
 
 returns : tie.Need-returns
-unfolding segOf segMove segStarts settle
-returns c = rw (c .settled .ensures, ← c .before .before .before .before .before .before .before .before .parse .ensures, ← c .before .before .before .before .before .before .before .of .ensures, ← c .before .before .before .before .choose .ensures, ← c .before .before .before .mode-of .ensures, ← c .before .hold-of .ensures)
+unfolding segOf segMove segStarts settle movedBy
+returns c =
+    let k = c .before .before in
+    rw (c .moved .ensures, ← k .before .before .parse .ensures, ← k .before .of .ensures, ← k .mode-of .ensures)
 
 pub amp-spec : {M : Type 1} → statement M
-amp-spec =
-    tie.close
-    (tie.spec
-    parse-requires
-    of-requires
-    choose-requires
-    mode-of-requires
-    hold-of-requires
-    settled-requires
-    returns)
+amp-spec = tie.close (tie.spec parse-requires of-requires mode-of-requires moved-requires returns)

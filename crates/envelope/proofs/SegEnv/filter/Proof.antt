@@ -1,5 +1,5 @@
--- `envelope::SegEnv::filter` meets its contract: its move, settled. Assumes nothing.
-use Rattle.envelope.specs.Moves.{settle, segStarts, segMove, segOf}
+-- `envelope::SegEnv::filter` meets its contract: what restarts it, and the rest as any envelope of a chain. Assumes nothing.
+use Rattle.envelope.specs.Moves.{settle, segStarts, segMove, movedBy, segOf}
 use borrow.Author.Needs.{needs}
 use Rattle.envelope.proofs.SegEnv.filter.Statement.{statement}
 use Rattle.envelope.proofs.SegEnv.filter.Tie as tie
@@ -16,28 +16,16 @@ mode-of-requires c κs = search needs
 same-requires : tie.Need-same-requires
 same-requires c κs = search needs
 
-choose-requires : tie.Need-choose-requires
-choose-requires c κs = search needs
-
-hold-of-requires : tie.Need-hold-of-requires
-hold-of-requires c κs = search needs
-
-settled-requires : tie.Need-settled-requires
-settled-requires c κs = search needs
+moved-requires : tie.Need-moved-requires
+moved-requires c κs = search needs
 
 returns : tie.Need-returns
-unfolding segOf segMove segStarts settle
-returns c = rw (c .settled .ensures, ← c .before .before .before .before .before .before .before .before .parse .ensures, ← c .before .before .before .before .before .before .before .of .ensures, ← c .before .before .before .before .before .before .mode-of .ensures, ← c .before .before .before .before .same .ensures, ← c .before .before .before .choose .ensures, ← c .before .hold-of .ensures)
+unfolding segOf segMove segStarts settle movedBy
+returns c =
+    let k = c .before .before .before in
+    rw (c .moved .ensures, ← k .before .before .parse .ensures, ← k .before .of .ensures, ← k .mode-of .ensures, ← c .before .same .ensures)
 
 pub filter-spec : {M : Type 1} → statement M
 filter-spec =
     tie.close
-    (tie.spec
-    parse-requires
-    of-requires
-    mode-of-requires
-    same-requires
-    choose-requires
-    hold-of-requires
-    settled-requires
-    returns)
+    (tie.spec parse-requires of-requires mode-of-requires same-requires moved-requires returns)

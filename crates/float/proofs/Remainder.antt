@@ -2,40 +2,25 @@
 use mathlib.Core.Path.{_≡_, refl, sym, ap, _∙_, subst}
 use mathlib.Core.Bool.{Bool, true, false, not, cond}
 use Prim.Native.Nat.{ℕ, suc, _+_, _-_, _*_, _/_, _%_, _^_, _<_, _≤_, min}
-use native.Mathlib.Nat.{add-zero, mod-eq-of-lt, mod-one, mul-one, mul-assoc, mul-comm, mul-right-comm, mul-div-cancel, mul-pos, sub-self, zero-mul, le-refl, mul-le-mul-right, mod-lt, mod-add-div', add-mul-mod-self-right, div-lt-iff-lt-mul, pow-succ'}
+use native.Mathlib.Nat.{add-zero, mod-eq-of-lt, mod-one, mul-one, mul-assoc, mul-comm, mul-right-comm, mul-pos, sub-self, zero-mul, le-refl, mul-le-mul-right, mod-lt, mod-add-div', add-mul-mod-self-right, div-lt-iff-lt-mul, pow-succ'}
 use native.Mathlib.Omega.{arith}
 use lib.Dec.{T, ltb, lit<}
 use lib.IntN.{ℤ, pos, negsuc}
 use lib.Pow.{pow-pos}
-use lib.Ieee.{Float, Format, binary32, nan, inf, fin, prec, low, hid, top, size, up, down, round, sum, add, sub, neg, rem, lt, fits, ofInt, ofBits, toBits, toSigned}
+use lib.Ieee.{Float, binary32, nan, inf, fin, low, up, down, round, sum, add, sub, neg, rem, lt, fits, ofInt, toSigned}
 use lib.Ieee.Back.{round-whole}
-use lib.Ieee.Bits.{ofBits-toBits}
 use lib.Ieee.Exact.{HasValue}
 use lib.Ieee.Fits.{down-pos, add-fits, rem-fits}
 use lib.Ieee.Scale.{round-same}
 use borrow.Author.Tests.{ltb-true, ltb-false, le-ltb}
 use Rattle.line.proofs.Units.{Is, add-is, sub-mul}
 use Rattle.line.proofs.Rounds.{rep-same, exact-at}
+use Rattle.line.proofs.Exact.{value-unique}
 use Rattle.line.proofs.Mono.{Good, good-is, units-of, neg-round}
 use Rattle.line.proofs.Rem.{one, nought, nought-is, rem-is, fits-parts}
 
 no : {X : Type 0} → false ≡ true → X
 no e = let z : _≡_ {A = ℕ} 0 1 = ap (λ (b : Bool). cond b 1 0) e in absurd (omega arith)
-
--- ---- two values of a format with one sign and one size are one value: their patterns are
-pattern : Format → Bool → ℕ → ℕ
-pattern f s q = cond s (top f) 0 + (size q - prec f) * hid f + q / 2 ^ (size q - prec f)
-
-pattern-is : (f : Format) (x : Float) (s : Bool) (q : ℕ) → Is f x s q → toBits f x ≡ pattern f s q
-unfolding toBits pattern
-pattern-is f nan s q h = absurd h
-pattern-is f (inf t) s q h = absurd h
-pattern-is f (fin t m e) s q h =
-    let n : m * up e * 2 ^ low f / down e ≡ q = ap (λ (z : ℕ). z / down e) (h .1) ∙ mul-div-cancel q (down-pos e) in
-    rw (n, h .0)
-
-same : (f : Format) (x y : Float) (s : Bool) (q : ℕ) → T (fits f x) → T (fits f y) → Is f x s q → Is f y s q → x ≡ y
-same f x y s q t u h k = sym (ofBits-toBits f x t) ∙ ap (ofBits f) (pattern-is f x s q h ∙ sym (pattern-is f y s q k)) ∙ ofBits-toBits f y u
 
 -- ---- adding +0 changes nothing but -0
 pub plus-nought : (m : ℕ) (e : ℤ) → T (fits binary32 (fin false m e)) → add binary32 (fin false m e) nought ≡ fin false m e
@@ -47,7 +32,7 @@ plus-nought m e t =
     let i : Is binary32 x false q = good-is binary32 x g in
     let r : add binary32 x nought ≡ round binary32 false q (2 ^ low binary32) =
     add-is binary32 x nought false q false 0 i (nought-is binary32) ∙ ap (λ (z : ℕ). round binary32 false z (2 ^ low binary32)) (add-zero q) in
-    same binary32 (add binary32 x nought) x false q (add-fits binary32 x nought) t
+    value-unique binary32 (add binary32 x nought) x false q (add-fits binary32 x nought) t
     (subst (λ (z : Float). Is binary32 z false q) (sym r) (exact-at binary32 false q (rep-same binary32 x false q t i))) i
 
 -- ---- below 1: the number itself
@@ -60,7 +45,7 @@ own s m e t less =
     let r : rem binary32 x one ≡ round binary32 s q (2 ^ low binary32) =
     rem-is binary32 s m e ∙ ap (λ (z : ℕ). round binary32 s z (down e)) (mod-eq-of-lt less)
     ∙ round-same binary32 s (m * up e) (down e) q (2 ^ low binary32) (down-pos e) (pow-pos (low binary32)) (i .1) in
-    same binary32 x (rem binary32 x one) s q t (rem-fits binary32 x one t) i
+    value-unique binary32 x (rem binary32 x one) s q t (rem-fits binary32 x one t) i
     (subst (λ (z : Float). Is binary32 z s q) (sym r) (exact-at binary32 s q (rep-same binary32 x s q t i)))
 
 pub rem-below-one : (x : Float) → T (fits binary32 x) → lt x nought ≡ false → lt x one ≡ true → x ≡ rem binary32 x one

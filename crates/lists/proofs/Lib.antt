@@ -1,3 +1,4 @@
 -- The laws.
 pub mod Sweep
 pub mod Missed
+pub mod Table

@@ -16,7 +16,7 @@ use Rattle.power.specs.Power.{log2E, productOf}
 use Rattle.power.proofs.Numbers.{P, L, M}
 use Rattle.power.proofs.TwoPower.{twoAt, two-at-is, power-law}
 use Rattle.power.proofs.Moves.{sum-den-pos}
-use Rattle.power.proofs.Table.{at}
+use Rattle.lists.proofs.Table.{at}
 use Rattle.log10.specs.Log10.{logs, restOf, partOf}
 
 -- ---- the stored logarithms
@@ -28,15 +28,15 @@ right-above j l = leb (2147483648 * ((64 + j) * sumDen P)) (2147483649 * (64 * s
 
 module _ (j : ℕ) (jl : j < 64) where
   pub stored-lt : getD logs j 0 < P
-  stored-lt = ltb→lt (getD logs j 0) P (at (λ j l. ltb l P) logs tt j jl)
+  stored-lt = ltb→lt (getD logs j 0) P (at 0 (λ j l. ltb l P) logs tt j jl)
 
   stored-below : 2147483648 * (64 * sumNum (getD logs j 0) P) ≤ 2147483649 * ((64 + j) * sumDen P)
   unfolding right-below sumNum sumDen expNum expDen
-  stored-below = leb→le (2147483648 * (64 * sumNum (getD logs j 0) P)) (2147483649 * ((64 + j) * sumDen P)) (at right-below logs tt j jl)
+  stored-below = leb→le (2147483648 * (64 * sumNum (getD logs j 0) P)) (2147483649 * ((64 + j) * sumDen P)) (at 0 right-below logs tt j jl)
 
   stored-above : 2147483648 * ((64 + j) * sumDen P) ≤ 2147483649 * (64 * sumNum (getD logs j 0) P)
   unfolding right-above sumNum sumDen expNum expDen
-  stored-above = leb→le (2147483648 * ((64 + j) * sumDen P)) (2147483649 * (64 * sumNum (getD logs j 0) P)) (at right-above logs tt j jl)
+  stored-above = leb→le (2147483648 * ((64 + j) * sumDen P)) (2147483649 * (64 * sumNum (getD logs j 0) P)) (at 0 right-above logs tt j jl)
 
 -- ---- the rest: with every number a variable, S / D is about (H + d) / H
 -- a m ≤ x: the sum at x / z, over z = Q m, from below

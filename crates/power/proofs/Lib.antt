@@ -3,7 +3,6 @@ pub mod Numbers
 pub mod TwoPower
 pub mod Moves
 pub mod Signs
-pub mod Table
 pub mod Method
 pub mod Rounding
 pub mod Reduction

@@ -18,7 +18,7 @@ use Rattle.power.specs.Exact.{sumNum, sumDen}
 use Rattle.power.specs.Power.{roots, coefs, scaledOf, fractionOf}
 use Rattle.power.proofs.Numbers.{P, L, M}
 use Rattle.power.proofs.Moves.{sum-scale, sum-den-scale, sum-den-pos}
-use Rattle.power.proofs.Table.{at}
+use Rattle.lists.proofs.Table.{at}
 
 -- 32 * 10 ^ 14
 abbrev N : ℕ
@@ -36,18 +36,18 @@ scaled-le x d n k q h = simp ac (simp ac at (mul-le-mul-right k h))
 
 module _ (i : ℕ) (il : i < 32) where
   pub root-lo : 1073741824 ≤ getD roots i 0
-  root-lo = leb→le 1073741824 (getD roots i 0) (at (λ i x. leb 1073741824 x) roots tt i il)
+  root-lo = leb→le 1073741824 (getD roots i 0) (at 0 (λ i x. leb 1073741824 x) roots tt i il)
 
   pub root-hi : getD roots i 0 ≤ 2101467501
-  root-hi = leb→le (getD roots i 0) 2101467501 (at (λ i x. leb x 2101467501) roots tt i il)
+  root-hi = leb→le (getD roots i 0) 2101467501 (at 0 (λ i x. leb x 2101467501) roots tt i il)
 
   below : getD roots i 0 * sumDen 32 ≤ 1073741824 * sumNum i 32
   unfolding cut-below sumNum sumDen expNum expDen
-  below = leb→le (getD roots i 0 * sumDen 32) (1073741824 * sumNum i 32) (at cut-below roots tt i il)
+  below = leb→le (getD roots i 0 * sumDen 32) (1073741824 * sumNum i 32) (at 0 cut-below roots tt i il)
 
   above : 1073741824 * sumNum i 32 ≤ (getD roots i 0 + 1) * sumDen 32
   unfolding cut-above sumNum sumDen expNum expDen
-  above = leb→le (1073741824 * sumNum i 32) ((getD roots i 0 + 1) * sumDen 32) (at cut-above roots tt i il)
+  above = leb→le (1073741824 * sumNum i 32) ((getD roots i 0 + 1) * sumDen 32) (at 0 cut-above roots tt i il)
 
   -- over the denominator P
   root-le : getD roots i 0 * sumDen P ≤ 1073741824 * sumNum (134217728 * i) P

@@ -12,7 +12,7 @@ use Rattle.series.specs.Horner.{horner}
 use Rattle.series.proofs.Horner.{horner-mono}
 use Rattle.power.specs.Power.{roots, coefs, fractionOf}
 use Rattle.power.proofs.Method.{series-lo, series-hi}
-use Rattle.power.proofs.Table.{at}
+use Rattle.lists.proofs.Table.{at}
 
 -- a root, times the series at 1, is at most the next root
 step-up : ℕ → ℕ → Bool
@@ -20,7 +20,7 @@ step-up i x = eqb i 31 || leb (4389014792 * x) (4294967296 * getD roots (suc i) 
 
 next : (i : ℕ) → i < 31 → 4389014792 * getD roots i 0 ≤ 4294967296 * getD roots (suc i) 0
 unfolding step-up
-next i h = pick (eqb i 31) (λ t. none (eqb→eq i 31 t)) (at step-up roots tt i (omega arith))
+next i h = pick (eqb i 31) (λ t. none (eqb→eq i 31 t)) (at 0 step-up roots tt i (omega arith))
   where
     none : i ≡ 31 → ⊥
     none e = omega arith

@@ -4,6 +4,7 @@ pub mod TwoPower
 pub mod Moves
 pub mod Signs
 pub mod Method
+pub mod Scaling
 pub mod Rounding
 pub mod Reduction
 pub mod Whole

@@ -11,6 +11,9 @@ pub const LOG2_E: u64 = 6196328018;
 
 pub const LOG2_TEN: u64 = 14267572527;
 
+// one of Q23
+const Q23: f32 = 1.0 / 8388608.0;
+
 // 2^(i / 32) in Q30: a `match`, which is compiled to one load, where a constant array is copied at each use
 fn root(i: u64) -> u64
     requires { ⌜ i < 32 ⌝ }
@@ -80,13 +83,13 @@ pub fn fraction(h: u64) -> u64
     scaled(h) / 1073741824
 }
 
-// 2^(w - 128), for a w of Q32
+// 2^(w - 128), for a w of Q32: 24 digits from 1 to 2, times the power of two in the table. Both products are exact
 pub fn power(w: u64) -> f32
     requires { ⌜ (8589934592 ≤ w) × (w < 1095216660480) ⌝ }
     ensures { λ r. ⌜ r ≡ powerOf w ⌝ }
 {
-    let m = (scaled(w % 4294967296) + 274877906944) / 549755813888; // Q23
-    f32::from_bits(((w / 4294967296 - 2) * 8388608 + m) as u32)
+    let m = ((scaled(w % 4294967296) + 274877906944) / 549755813888) as u32; // Q23
+    (m as f32) * Q23 * pow2::at((w / 4294967296 - 2) as u8)
 }
 
 // v * k of Q32, both of Q32, in two parts so that no product passes 64 bits

@@ -1,10 +1,11 @@
--- `power::power` meets its contract: cutting and rounding at once gives the same digits. Assumes nothing.
+-- `power::power` meets its contract: cutting and rounding at once gives the same digits, and times the table's power they are the float. Assumes nothing.
 use mathlib.Core.Path.{_≡_, ap, _∙_}
 use Prim.Native.Nat.{ℕ, _+_, _-_, _*_, _/_}
 use native.Mathlib.Omega.{arith}
-use lib.Ieee.{binary32, ofBits}
-use Rattle.fixed.proofs.Fields.{bits-no-nan}
+use lib.Dec.{le→leb}
+use lib.Ieee.{binary32, ofBits, inFloat}
 use Rattle.power.specs.Power.{fractionOf, powerOf}
+use Rattle.power.proofs.Scaling.{product-is-pattern}
 use borrow.Author.Needs.{needs}
 use Rattle.power.proofs.power.Statement.{statement}
 use Rattle.power.proofs.power.Tie as tie
@@ -15,37 +16,35 @@ scaled-requires c κs = search needs
 add-m : tie.Need-add-m
 add-m c = search needs
 
-sub-result : tie.Need-sub-result
-sub-result c = search needs
+cast-m : tie.Need-cast-m
+cast-m c = search needs
 
-mul-result : tie.Need-mul-result
-mul-result c = search needs
+int-to-float-result : tie.Need-int-to-float-result
+unfolding inFloat
+int-to-float-result c = le→leb ((c .before .scaled .result + 274877906944) / 549755813888) 16777216 (omega (arith, c .before .scaled .ensures .2))
 
-add-result : tie.Need-add-result
-add-result c = search needs
+sub-at : tie.Need-sub-at
+sub-at c = search needs
 
-cast-result : tie.Need-cast-result
-cast-result c = search needs
+cast-at : tie.Need-cast-at
+cast-at c = search needs
 
-float-from-bits-result : tie.Need-float-from-bits-result
-float-from-bits-result c = bits-no-nan _ (omega arith)
+at-requires : tie.Need-at-requires
+at-requires c κs = search needs
 
 once : (s : ℕ) → (s + 274877906944) / 549755813888 ≡ (s / 1073741824 + 256) / 512
 once s = omega arith
 
 returns : tie.Need-returns
 unfolding powerOf fractionOf
-returns c = ap (λ (m : ℕ). ofBits binary32 ((c .before .args .w / 4294967296 - 2) * 8388608 + m)) (once (c .scaled .result) ∙ ap (λ (s : ℕ). (s / 1073741824 + 256) / 512) (c .scaled .ensures .0))
+returns c =
+    let s = c .before .before .scaled .result in
+    let e = c .before .before .scaled .ensures in
+    let i = c .before .before .before .args .w / 4294967296 - 2 in
+    product-is-pattern i ((s + 274877906944) / 549755813888) (c .at .result) (omega (arith, c .before .before .before .pre .1)) (omega (arith, e .1)) (omega (arith, e .2)) (c .at .ensures)
+    ∙ ap (λ (m : ℕ). ofBits binary32 (i * 8388608 + m)) (once s ∙ ap (λ (z : ℕ). (z / 1073741824 + 256) / 512) (e .0))
 
 pub power-spec : {M : Type 1} → statement M
 power-spec =
     tie.close
-    (tie.spec
-    scaled-requires
-    add-m
-    sub-result
-    mul-result
-    add-result
-    cast-result
-    float-from-bits-result
-    returns)
+    (tie.spec scaled-requires add-m cast-m int-to-float-result sub-at cast-at at-requires returns)

@@ -1,0 +1,2 @@
+-- The law of the table. Assumes nothing.
+pub mod Exact

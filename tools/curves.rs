@@ -3,10 +3,13 @@
 //!
 //!     --every N   only every Nth bit pattern (default 1)
 //!     --time      times each curve beside Rust's library instead
+//!     --against F compares each curve's answers, bit for bit, with those of another build instead: F is a shared library of it
 //!     CURVE...    only these
 //!
 //! Links curves_c.
 
+#[path = "curves/builds.rs"]
+mod builds;
 #[path = "curves/timing.rs"]
 mod timing;
 
@@ -31,7 +34,7 @@ const INF: f32 = f32::INFINITY;
 
 struct Curve {
     name: &'static str,
-    port: unsafe extern "C" fn(f32) -> f32,
+    port: builds::Port,
     exact: fn(f64) -> f64,
     range: &'static str,
     inside: fn(f32) -> bool,
@@ -233,6 +236,21 @@ impl Seen {
     }
 }
 
+/// Answers of this build beside another's on the same bits. A value that is no number has no bits to keep: those of another pattern are counted apart.
+fn against(name: &str, now: builds::Port, before: builds::Port, every: u64) -> u64 {
+    let seen = sweep(every, |seen, x| {
+        seen.inside += 1;
+        let (y, was) = unsafe { (now(x), before(x)) };
+        if !same(y, was) {
+            seen.wrong(|| format!("{x:e} ({:08x}) gives {:08x}, before {:08x}", x.to_bits(), y.to_bits(), was.to_bits()));
+        } else if y.to_bits() != was.to_bits() {
+            seen.outside += 1;
+        }
+    });
+    println!("{name}: {} bit patterns, {} differences, {} values that are no number with another pattern", seen.inside, seen.bad, seen.outside);
+    report(&seen)
+}
+
 /// The unit in the last place at y.
 fn last_place(y: f32) -> f64 {
     let e = ((y.to_bits() >> 23 & 0xff) as i32).clamp(1, 254);
@@ -302,11 +320,22 @@ fn root(every: u64) -> u64 {
     report(&used) + report(&all)
 }
 
+fn stop(why: &str) -> ! {
+    eprintln!("measure-curves: {why}");
+    std::process::exit(2);
+}
+
 fn main() {
     let mut words: Vec<String> = std::env::args().skip(1).collect();
     let mut every = 1;
     if let Some(i) = words.iter().position(|w| w == "--every") {
         every = words.get(i + 1).and_then(|w| w.parse().ok()).filter(|&n| n > 0).expect("--every takes a number");
+        words.drain(i..i + 2);
+    }
+    let mut other = None;
+    if let Some(i) = words.iter().position(|w| w == "--against") {
+        let path = words.get(i + 1).unwrap_or_else(|| stop("--against takes a shared library"));
+        other = Some(builds::Build::open(path).unwrap_or_else(|e| stop(&e)));
         words.drain(i..i + 2);
     }
     let time = words.iter().any(|w| w == "--time");
@@ -323,6 +352,12 @@ fn main() {
             timing::compare("sqrt", (0.0, 134215680.0), rytm_sqrt, f32::sqrt);
         }
         return;
+    }
+    if let Some(build) = other {
+        let ports = CURVES.iter().map(|c| (c.name, c.port)).chain([("sqrt", rytm_sqrt as builds::Port)]);
+        let bad: u64 = ports.filter(|p| chosen(p.0)).map(|(name, port)| against(name, port, build.curve(name).unwrap_or_else(|e| stop(&e)), every)).sum();
+        println!("{bad} differences");
+        std::process::exit((bad != 0) as i32);
     }
     let mut bad = 0;
     for c in CURVES.iter().filter(|c| chosen(c.name)) {

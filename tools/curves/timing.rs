@@ -23,13 +23,12 @@ fn shuffled(mut xs: Vec<f32>) -> Vec<f32> {
     xs
 }
 
-/// Nanoseconds a call, the best of the batches.
+/// Nanoseconds a call, the best of the batches. The answers are joined in a register: through one place in memory a call would wait for the one before.
 fn best(xs: &[f32], f: impl Fn(f32) -> f32) -> f64 {
     let batch = || {
         let start = Instant::now();
-        for &x in xs {
-            black_box(f(black_box(x)));
-        }
+        let all = black_box(xs).iter().fold(0, |all, &x| all ^ f(x).to_bits());
+        black_box(all);
         start.elapsed().as_nanos() as f64 / xs.len() as f64
     };
     (0..BATCHES).map(|_| batch()).fold(f64::INFINITY, f64::min)
@@ -37,6 +36,8 @@ fn best(xs: &[f32], f: impl Fn(f32) -> f32) -> f64 {
 
 /// One line: both times and their ratio, for each order.
 pub fn compare(name: &str, (lo, hi): (f32, f32), port: unsafe extern "C" fn(f32) -> f32, rust: fn(f32) -> f32) {
+    // unknown to the compiler, so that neither is put into the loop
+    let (port, rust) = black_box((port, rust));
     let told = |xs: Vec<f32>| {
         let (p, r) = (best(&xs, |x| unsafe { port(x) }), best(&xs, rust));
         format!("{p:5.1} ns, Rust's {r:5.1} ns, ratio {:5.2}", p / r)

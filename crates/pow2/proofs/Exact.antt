@@ -6,11 +6,10 @@ use Prim.Native.Nat.{ℕ, _*_, _^_, _<_}
 use lib.Dec.{T, eqb, eqb→eq}
 use lib.Ieee.{Float, nan, inf, fin, up, down}
 use lib.Ieee.Bits.{is-false}
-use lib.Ieee.Exact.{HasValue}
 use lib.Ieee.Fits.{and-l, and-r}
 use lib.ListN.{length, getD}
 use Rattle.lists.proofs.Table.{every, at}
-use Rattle.pow2.specs.Powers.{TwoPowers}
+use Rattle.pow2.specs.Powers.{TwoPower, TwoPowers}
 
 -- x is exactly 2 ^ (k - 126), as a test
 abbrev pub isPower : ℕ → Float → Bool
@@ -18,7 +17,7 @@ isPower k nan = false
 isPower k (inf s) = false
 isPower k (fin s m e) = not s && eqb (m * up e * 2 ^ 126) (2 ^ k * down e)
 
-exactly : (k : ℕ) (x : Float) → T (isPower k x) → HasValue x false (2 ^ k) (2 ^ 126)
+exactly : (k : ℕ) (x : Float) → T (isPower k x) → TwoPower x k
 exactly k nan t = t
 exactly k (inf s) t = t
 exactly k (fin s m e) t =

@@ -1,8 +1,6 @@
 // Powers of two, read off a table.
-ghost use mathlib.Core.Bool.{false};
-ghost use Prim.Native.Nat.{_^_, _<_};
-ghost use lib.Ieee.Exact.{HasValue};
-ghost use Rattle.pow2.specs.Powers.{TwoPowers};
+ghost use Prim.Native.Nat.{_<_};
+ghost use Rattle.pow2.specs.Powers.{TwoPower, TwoPowers};
 
 mod entries;
 mod table;
@@ -17,7 +15,7 @@ pub fn two_powers() -> [f32; 253]
 // 2^(i - 126): a `match` of constants is compiled to one load, where an array is built anew at each call
 pub fn at(i: u8) -> f32
     requires { ⌜ i < 253 ⌝ }
-    ensures { λ r. ⌜ HasValue r false (2 ^ i) (2 ^ 126) ⌝ }
+    ensures { λ r. ⌜ TwoPower r i ⌝ }
 {
     match i {
         0 => entries::E0,

@@ -11,12 +11,12 @@ use lib.Pow.{pow-pos, pow-add, pow-mono}
 use lib.Ieee.{Float, binary32, ofBits, ofInt, round, mul}
 use lib.Ieee.Back.{round-whole}
 use lib.Ieee.Bits.{ofBits-fits}
-use lib.Ieee.Exact.{HasValue}
 use lib.Ieee.Fits.{mul-fits}
 use Rattle.line.proofs.Units.{Is}
 use Rattle.line.proofs.Rounds.{Rep}
 use Rattle.line.proofs.Exact.{mul-exact, value-unique}
 use Rattle.fixed.proofs.Fields.{pattern-carry, value-other}
+use Rattle.pow2.specs.Powers.{TwoPower}
 
 -- 24 digits, moved up by j places, are a value of the format
 rep : (m j : ℕ) → m ≤ 16777216 → j ≤ 252 → Rep binary32 (m * 2 ^ j)
@@ -51,13 +51,13 @@ module _ (m : ℕ) (hi : m ≤ 16777216) where
   significand-is : Is binary32 significand false (m * 2 ^ 126)
   significand-is = mul-exact binary32 (ofInt binary32 (pos m)) q23 false false (m * 2 ^ 149) (2 ^ 126) (m * 2 ^ 126) whole-is q23-is (mul-right-comm m (2 ^ 149) (2 ^ 126)) (rep m 126 hi (lit≤ tt))
 
-  times-is : (i : ℕ) (p : Float) → i < 253 → HasValue p false (2 ^ i) (2 ^ 126) → Is binary32 (mul binary32 significand p) false (m * 2 ^ i)
+  times-is : (i : ℕ) (p : Float) → i < 253 → TwoPower p i → Is binary32 (mul binary32 significand p) false (m * 2 ^ i)
   times-is i p l h =
       mul-exact binary32 significand p false false (m * 2 ^ 126) (2 ^ i * 2 ^ 23) (m * 2 ^ i) significand-is
       (value-other p false (2 ^ i) (2 ^ 126) (2 ^ i * 2 ^ 23) (2 ^ 149) (pow-pos 126) (mul-assoc (2 ^ i) (2 ^ 23) (2 ^ 126)) h)
       (mul-mul-mul-comm m (2 ^ 126) (2 ^ i) (2 ^ 23)) (rep m i hi (omega arith))
 
-pub product-is-pattern : (i m : ℕ) (p : Float) → i < 253 → 8388608 ≤ m → m ≤ 16777216 → HasValue p false (2 ^ i) (2 ^ 126)
+pub product-is-pattern : (i m : ℕ) (p : Float) → i < 253 → 8388608 ≤ m → m ≤ 16777216 → TwoPower p i
     → mul binary32 (mul binary32 (ofInt binary32 (pos m)) q23) p ≡ ofBits binary32 (i * 8388608 + m)
 product-is-pattern i m p l lo hi h =
     value-unique binary32 (mul binary32 (significand m hi) p) (ofBits binary32 (i * 8388608 + m)) false (m * 2 ^ i) (mul-fits binary32 (significand m hi) p) (ofBits-fits binary32 (i * 8388608 + m))

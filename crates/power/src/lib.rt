@@ -11,7 +11,7 @@ pub const LOG2_E: u64 = 6196328018;
 
 pub const LOG2_TEN: u64 = 14267572527;
 
-// one of Q23
+// 2^-23, which one of Q23 stands for
 const Q23: f32 = 1.0 / 8388608.0;
 
 // 2^(i / 32) in Q30: a `match`, which is compiled to one load, where a constant array is copied at each use

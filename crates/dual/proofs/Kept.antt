@@ -1,4 +1,4 @@
--- One sample of a dual voice, on any frame of bytes, keeps its phases from 0 to 1, its detunes and drifts bounded and its levels levels, and so the random source. Assumes nothing.
+-- One sample of a dual voice, on any frame of bytes, keeps its phases from 0 to below 1, its detunes and drifts bounded and its levels levels, and so the random source. Assumes nothing.
 use Prim.Native.Nat.{ℕ, _+_, _*_, _≤_}
 use native.Mathlib.Omega.{arith}
 use mathlib.Core.Bool.{Bool, true, false, not, _&&_, _||_, cond}
@@ -8,7 +8,6 @@ use lib.Dec.{eqb, le→leb}
 use lib.IntN.{pos}
 use lib.Ieee.{Float, nan, binary32, le, lt, eq, fits, ofBits, ofInt, round}
 use Rattle.line.proofs.Range.{In}
-use Rattle.line.proofs.Rem.{nought-in}
 use Rattle.line.proofs.Whole.{ofInt-in}
 use Rattle.float.specs.Consts.{k0, k1, k127, FS, k65535, k0p45}
 use Rattle.float.specs.Ops.{_⊗_, _⊘_}
@@ -21,11 +20,11 @@ use Rattle.envelope.specs.Levels.{Level}
 use Rattle.envelope.proofs.Ranges.{level-range}
 use Rattle.envelope.proofs.Settle.{dual-level}
 use Rattle.vco.specs.Vco.{pairOf}
-use Rattle.vco.proofs.Kept.{osc-in, advanced-in, advanced-fm-in}
+use Rattle.vco.proofs.Kept.{Turn, turn-of, osc-in, advanced-in, advanced-fm-in}
 use Rattle.wobble.specs.declared.Wobble.{Wobble}
 use Rattle.wobble.specs.declared.Drift.{Drift}
 use Rattle.wobble.specs.Wobble.{DETUNE-CENTS, detuneOf, driftOf}
-use Rattle.wobble.proofs.Kept.{Unit, Ratio, WobbleIn, DriftIn, detune-in, drift-in}
+use Rattle.wobble.proofs.Kept.{Ratio, WobbleIn, DriftIn, detune-in, drift-in}
 use Rattle.dual.specs.Consts.{HZ-PER-TUNE, TUNE-PER-PITCH-LEVEL}
 use Rattle.dual.specs.declared.DualOsc.{DualOsc}
 use Rattle.dual.specs.declared.Settings.{Settings}
@@ -37,8 +36,8 @@ abbrev none : Drift
 none = record { cents = nan; ratio = nan; n = 0 }
 
 pub record DualIn (d : DualOsc) : Type 0 where
-  pub ph1 : Unit (d .ph1)
-  pub ph2 : Unit (d .ph2)
+  pub ph1 : Turn (d .ph1)
+  pub ph2 : Turn (d .ph2)
   pub pitch : Level (d .pitch .level)
   pub amp : Level (d .amp .level)
   pub amp2 : Level (d .amp2 .level)
@@ -75,23 +74,23 @@ cut-in v h = range k0 k65535 (capped (leaf h) (FS ⊗ k0p45)) tt
 
 -- ---- the two phases
 pub record PhasesIn (s : Sound) : Type 0 where
-  pub ph1 : Unit (s .ph1)
-  pub ph2 : Unit (s .ph2)
+  pub ph1 : Turn (s .ph1)
+  pub ph2 : Turn (s .ph2)
 
-choose-in : (b : Bool) (x y : Float) → Unit x → Unit y → Unit (cond b x y)
+choose-in : (b : Bool) (x y : Float) → Turn x → Turn y → Turn (cond b x y)
 choose-in true x y h k = h
 choose-in false x y h k = k
 
-module _ (i : Settings) (p q f1 f2 a : Float) (P : Unit p) (Q : Unit q) (F1 : In binary32 k0 k65535 f1) (F2 : In binary32 k0 k65535 f2) where
+module _ (i : Settings) (p q f1 f2 a : Float) (P : Turn p) (Q : Turn q) (F1 : In binary32 k0 k65535 f1) (F2 : In binary32 k0 k65535 f2) where
   plain-in : PhasesIn (plainOf i p q f1 f2)
   unfolding plainOf
-  plain-in = record { ph1 = advanced-in p f1 P F1; ph2 = advanced-in q f2 Q F2 }
+  plain-in = record { ph1 = advanced-in p f1 (P .unit) F1; ph2 = advanced-in q f2 (Q .unit) F2 }
 
   paired-in : i .level2 ≤ 65535 → Level a → PhasesIn (pairedOf i p q f1 f2 a)
   unfolding pairedOf pairOf
   paired-in w l = record {
-    ph1 = choose-in (eqb (i .tune1) 0) p _ P (advanced-fm-in (i .fm) p f1 _ _ P F1 (depth-in (i .level2) a w l) (osc-in (eqb (i .tune2) 0) (i .wave2) q Q));
-    ph2 = choose-in (eqb (i .tune2) 0) q _ Q (advanced-in q _ Q (cut-in f2 F2));
+    ph1 = choose-in (eqb (i .tune1) 0) p _ P (advanced-fm-in (i .fm) p f1 _ _ P F1 (depth-in (i .level2) a w l) (osc-in (eqb (i .tune2) 0) (i .wave2) q (Q .unit)));
+    ph2 = choose-in (eqb (i .tune2) 0) q _ Q (advanced-in q _ (Q .unit) (cut-in f2 F2));
   }
 
   sound-in : i .level2 ≤ 65535 → Level a → PhasesIn (soundOf i p q f1 f2 a)
@@ -104,22 +103,18 @@ module _ (i : Settings) (p q f1 f2 a : Float) (P : Unit p) (Q : Unit q) (F1 : In
 
 -- ---- the trig
 pub record TriggedIn (t : Trigged) : Type 0 where
-  pub ph1 : Unit (t .ph1)
-  pub ph2 : Unit (t .ph2)
+  pub ph1 : Turn (t .ph1)
+  pub ph2 : Turn (t .ph2)
   pub det1 : Ratio (getD (t .det) 0 nan)
   pub det2 : Ratio (getD (t .det) 1 nan)
   pub w : WobbleIn (t .w)
 
-zero-in : Unit k0
-unfolding ofBits
-zero-in = nought-in binary32
-
 trig-in : (rise : Bool) (d : DualOsc) (w : Wobble) → DualIn d → WobbleIn w → TriggedIn (trigOf rise (d .ph1) (d .ph2) (d .det) w)
-unfolding trigOf
+unfolding trigOf ofBits fits le lt eq
 trig-in true d w h k =
     let a = detune-in w k in
     let b = detune-in (detuneOf w DETUNE-CENTS .w) (a .0) in
-    record { ph1 = zero-in; ph2 = zero-in; det1 = a .1; det2 = b .1; w = b .0 }
+    record { ph1 = turn-of _ tt; ph2 = turn-of _ tt; det1 = a .1; det2 = b .1; w = b .0 }
 trig-in false d w h k = record { ph1 = h .ph1; ph2 = h .ph2; det1 = h .det1; det2 = h .det2; w = k }
 
 pub dual-in : (f : List ℕ) → Bytes f → (n : ℕ) (d : DualOsc) (w : Wobble) → DualIn d → WobbleIn w → DualIn (sampleOf f n d w .dual) × WobbleIn (sampleOf f n d w .w)

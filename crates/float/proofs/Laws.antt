@@ -1,21 +1,23 @@
--- What a phase keeps and a word is bounded by: `fract` and `rem_euclid(1.0)` lie from 0 to 1, `to24` within ±8388607. Assumes nothing.
+-- What a phase keeps and a word is bounded by: `fract` lies from 0 to below 1, `rem_euclid(1.0)` from 0 to 1, `to24` within ±8388607. Assumes nothing.
 use mathlib.Core.Path.{_≡_, refl, sym, ap, _∙_, subst}
 use mathlib.Core.Bool.{Bool, true, false, not}
 use Prim.Native.Nat.{ℕ, zero, suc, _+_, _*_, _%_, _^_, _≤_, _<_}
-use native.Mathlib.Nat.{mul-pos, add-zero, sub-zero, le-of-lt, zero-mul, zero-mod, lt-irrefl, zero-lt-suc}
+use native.Mathlib.Nat.{mul-pos, add-zero, sub-zero, le-of-lt, lt-of-le-of-lt, zero-mul, zero-mod, lt-irrefl, zero-lt-suc}
 use native.Mathlib.Omega.{arith}
 use lib.IntN.{ℤ, pos, natAbs}
-use lib.Dec.{T, lit<, lit≤}
+use lib.Dec.{T, eqb, eqb→eq, lit<, lit≤}
 use lib.Pow.{pow-pos}
-use lib.Ieee.{Float, Format, binary32, nan, inf, fin, low, up, down, round, neg, sum, add, mul, rem, lt, le, eq, fits, ofBits, toSigned}
-use lib.Ieee.Fits.{add-fits, rem-fits, down-pos, up-pos}
+use lib.Ieee.{Float, Format, binary32, nan, inf, fin, level, low, up, down, round, neg, sum, add, mul, rem, lt, le, eq, fits, ofBits, toSigned}
+use lib.Ieee.Fits.{and-l, and-r, add-fits, rem-fits, down-pos, up-pos}
 use lib.Ieee.Scale.{round-same}
 use borrow.Author.Tests.{lt-ltb, le-ltb}
-use Rattle.line.proofs.Units.{Is}
+use Rattle.line.proofs.Bools.{bool-ext}
+use Rattle.line.proofs.Units.{Is, eq-is}
 use Rattle.line.proofs.Rounds.{sign, has-finite}
-use Rattle.line.proofs.Mono.{Good, good-is, units-of, le→under, under→le, neg-le}
-use Rattle.line.proofs.Range.{In, in-add, in-mul, in-self, in-cond, cut-high, cut-low, lt→le, not-lt}
-use Rattle.line.proofs.Rem.{Part, one, nought, nought-is, nought-good, nought-in, rem-is, rem-part, part-unit, part-both, part-lt, part-plus}
+use Rattle.line.proofs.Exact.{unit-is}
+use Rattle.line.proofs.Mono.{Good, Under, good-is, units-of, le→under, under→le, neg-le}
+use Rattle.line.proofs.Range.{In, in-add, in-mul, in-self, in-cond, cut-high, cut-low, lt→le, le→lt, not-lt}
+use Rattle.line.proofs.Rem.{Part, one, nought, nought-is, nought-good, nought-in, rem-is, rem-part, part-unit, part-both, part-plus}
 use Rattle.line.proofs.Whole.{cut-within}
 use Rattle.float.specs.Consts.{k0, k1}
 use Rattle.float.specs.Floats.{absOf, signumOf, clampOf, fractOf, remEuclidOf, FULL-SCALE, to24Of}
@@ -59,9 +61,44 @@ fract-in hi (fin true m e) h =
     let z = no-size (units-of binary32 (fin true m e) (h .ok)) (le→under binary32 nought (fin true m e) false 0 true (units-of binary32 (fin true m e) (h .ok)) (nought-is binary32) k (h .from)) in
     subst (λ (y : Float). In binary32 nought one y) (sym (fract-zero m e (none-left m (up e) (2 ^ low binary32) (up-pos e) (pow-pos (low binary32)) (k .1 ∙ ap (λ (q : ℕ). q * down e) z ∙ zero-mul (down e))))) (nought-in binary32)
 
--- and below 1
-pub fract-below : (x : Float) → Good binary32 x → sign x ≡ false → T (lt (fractOf x) one)
-fract-below x g e = part-lt binary32 (fractOf x) (fract-part x g e)
+-- no fraction is 1, that of a negative number neither
+not-one : (y : Float) (s : Bool) (q : ℕ) → Is binary32 y s q → (s ≡ false → q < 2 ^ low binary32) → eq y one ≡ false
+not-one y s q i h = eq-is binary32 y one s q false (2 ^ low binary32) i (unit-is binary32 false) ∙ bool-ext (level s q false (2 ^ low binary32)) false (no s (2 ^ low binary32) (pow-pos (low binary32)) h) (λ t. absurd t)
+  where
+    no : (s : Bool) (o : ℕ) → 0 < o → (s ≡ false → q < o) → T (level s q false o) → T false
+    no false o p h t = absurd (lt-irrefl o (subst (λ (z : ℕ). z < o) (eqb→eq q o (and-l (eqb q o) true t)) (h refl)))
+    no true o p h t = absurd (lt-irrefl 0 (subst (λ (z : ℕ). 0 < z) (sym (eqb→eq q o (and-l (eqb q o) (eqb q 0) t)) ∙ eqb→eq q 0 (and-r (eqb q o) (eqb q 0) t)) p))
+
+pub fract-not-one : (x : Float) → T (fits binary32 x) → eq (fractOf x) one ≡ false
+unfolding fractOf ofBits
+fract-not-one nan f = unfold rem add eq in refl
+fract-not-one (inf s) f = unfold rem add eq in refl
+fract-not-one (fin false m e) f = let p = fract-part (fin false m e) (f, tt) refl in not-one (fractOf (fin false m e)) false (p .size-of) (p .is) (λ q. p .small)
+fract-not-one (fin true m e) f =
+    let r = rem binary32 (fin true m e) one in
+    let p = rem-part binary32 (fin true m e) (f, tt) in
+    let low = under→le binary32 r nought true (p .size-of) false 0 (p .is) (nought-is binary32) (none (p .size-of + 0)) in
+    by (add binary32 r nought) (plus r (cut-high (part-both binary32 r true (rem-fits binary32 (fin true m e) one f) p) nought (unfold fits in tt) low))
+  where
+    none : (n : ℕ) → 0 ≤ n
+    none n = omega arith
+
+    plus : (y : Float) → In binary32 (fin true 1 (pos 0)) nought y → In binary32 (fin true 1 (pos 0)) nought (add binary32 y nought)
+    plus y h = unfold fits add le lt eq in in-add binary32 (fin true 1 (pos 0)) nought h (in-self binary32 nought tt) tt
+
+    small : (s : Bool) (q : ℕ) → Under s q false 0 → s ≡ false → q < 2 ^ low binary32
+    small false q h e = lt-of-le-of-lt h (pow-pos (low binary32))
+    small true q h e = absurd (subst T e tt)
+
+    by : (y : Float) → In binary32 (fin true 1 (pos 0)) nought y → eq y one ≡ false
+    by y h =
+        let q = units-of binary32 y (h .ok) in
+        let i = good-is binary32 y (h .ok) in
+        not-one y (sign y) q i (small (sign y) q (le→under binary32 y nought (sign y) q false 0 i (nought-is binary32) (h .upto)))
+
+-- so of what is not below zero it is below 1
+pub fract-below : (hi x : Float) → In binary32 nought hi x → T (lt (fractOf x) one)
+fract-below hi x h = le→lt (fractOf x) one (fract-in hi x h .upto) (fract-not-one x (h .ok .0))
 
 -- ---- rem_euclid by 1: 1 itself can be reached
 pub rem-euclid-in : (x : Float) → Good binary32 x → In binary32 nought one (remEuclidOf x k1)

@@ -1,14 +1,20 @@
 -- Ranges of floats: x lies from lo to hi. A range of an expression follows from ranges of its parts by tests on the ends alone, which antt computes: `tt` proves them. Assumes nothing.
-use mathlib.Core.Path.{_≡_, refl, subst}
+use Prim.Native.Nat.{ℕ, _+_, _-_, _*_, _^_, _≤_, _<_}
+use native.Mathlib.Nat.{mul-assoc, mul-le-mul, mul-le-mul-right, lt-of-mul-lt-mul-right}
+use native.Mathlib.Omega.{arith}
+use mathlib.Core.Path.{_≡_, refl, sym, ap, _∙_, subst}
 use mathlib.Core.Bool.{Bool, true, false, not, _&&_, cond}
-use lib.Dec.{T}
-use lib.Ieee.{mul, div, Float, Format, neg, add, le, lt, eq, fits}
+use lib.Dec.{T, ltb, ltb→lt, nltb→le}
+use lib.IntN.{pos}
+use lib.Pow.{pow-add, pow-mono}
+use lib.Ieee.{mul, div, Float, fin, Format, binary32, neg, add, le, lt, eq, fits}
 use lib.Ieee.Fits.{and-i, and-l, and-r, add-fits, mul-fits, div-fits}
 use lib.Ieee.Scale.{finite}
 use lib.Ieee.Positive.{positive}
-use Rattle.line.proofs.Bools.{or-l}
-use Rattle.line.proofs.Rounds.{sign, finite-between}
-use Rattle.line.proofs.Mono.{Good, add-le, neg-le, neg-good, mul-up, mul-down, mul-swap, div-le, le-trans-good, nlt→le}
+use Rattle.line.proofs.Bools.{or-l, or-e}
+use Rattle.line.proofs.Units.{Is}
+use Rattle.line.proofs.Rounds.{sign, fits-sized, finite-between}
+use Rattle.line.proofs.Mono.{Good, Under, under→le, add-le, neg-le, neg-good, mul-up, mul-down, mul-swap, div-le, le-trans-good, nlt→le}
 
 pub record In (f : Format) (lo hi x : Float) : Type 0 where
   pub low : Good f lo
@@ -156,6 +162,10 @@ pub lt→le : (x y : Float) → T (lt x y) → T (le x y)
 unfolding le
 lt→le x y t = or-l (lt x y) (eq x y) t
 
+pub le→lt : (x y : Float) → T (le x y) → eq x y ≡ false → T (lt x y)
+unfolding le
+le→lt x y t e = or-e (lt x y) (eq x y) (λ h. h) (λ h. absurd (subst T e h)) t
+
 -- a range in two
 pub split : {f : Format} {a b x : Float} {P : Type 0} → In f a b x → (c : Float) → T (good f c) → (In f a c x → P) → (In f c b x → P) → P
 split {f} {a} {b} {x} {P} h c g p q = go (lt c x) (lt→le c x) (not-lt f x c (h .ok) (good-of f c g))
@@ -163,3 +173,47 @@ split {f} {a} {b} {x} {P} h c g p q = go (lt c x) (lt→le c x) (not-lt f x c (h
     go : (t : Bool) → (T t → T (le c x)) → (T (not t) → T (le x c)) → P
     go true i j = q (cut-low h c g (i tt))
     go false i j = p (cut-high h c g (j tt))
+
+-- ---- every finite f32 lies between the largest and its negative
+abbrev pub largest : Float
+largest = fin false 16777215 (pos 104)
+
+-- a number of smallest values that the format holds, P the largest's last place
+up-to-largest : (m a j k P : ℕ) → a < 16777216 → m ≡ a * 2 ^ j → m < 16777216 * P → P ≡ 2 ^ k → m ≤ 16777215 * P
+up-to-largest m a j k P few is fine p = go (ltb k j) (ltb→lt k j) (nltb→le k j)
+  where
+    go : (b : Bool) → (T b → k < j) → (T (not b) → j ≤ k) → m ≤ 16777215 * P
+    go true h i =
+        let n = a * 2 ^ (j - k) in
+        let e : m ≡ n * P = is ∙ ap (λ (z : ℕ). a * 2 ^ z) (back (h tt)) ∙ ap (λ (z : ℕ). a * z) (pow-add 2 (j - k) k ∙ ap (λ (z : ℕ). 2 ^ (j - k) * z) (sym p)) ∙ sym (mul-assoc a (2 ^ (j - k)) P) in
+        let less : n < 16777216 = lt-of-mul-lt-mul-right P (subst (λ (z : ℕ). z < 16777216 * P) e fine) in
+        subst (λ (z : ℕ). z ≤ 16777215 * P) (sym e) (mul-le-mul-right P (omega arith))
+      where
+        back : k < j → j ≡ j - k + k
+        back h = omega arith
+    go false h i = subst (λ (z : ℕ). z ≤ 16777215 * P) (sym is) (mul-le-mul (omega arith) (subst (λ (z : ℕ). 2 ^ j ≤ z) (sym p) (pow-mono (i tt))))
+
+under-minus : (m : ℕ) (s : Bool) (q : ℕ) → q ≤ m → Under true m s q
+under-minus m false q h = omega arith
+under-minus m true q h = h
+
+under-plus : (m : ℕ) (s : Bool) (q : ℕ) → q ≤ m → Under s q false m
+under-plus m false q h = h
+under-plus m true q h = omega arith
+
+largest-is : (s : Bool) → Is binary32 (fin s 16777215 (pos 104)) s (16777215 * 2 ^ 253)
+largest-is s = (refl, refl)
+
+pub finite-in : (x : Float) → Good binary32 x → In binary32 (fin true 16777215 (pos 104)) largest x
+unfolding fits
+finite-in x g =
+    let z = fits-sized binary32 x (g .0) (g .1) in
+    let q = z .size-of in
+    let b : q ≤ 16777215 * 2 ^ 253 = up-to-largest q (z .rep .q) (z .rep .j) 253 (2 ^ 253) (z .rep .few) (z .rep .is) (z .rep .fine) refl in
+    record {
+      low = (tt, tt);
+      high = (tt, tt);
+      ok = g;
+      from = under→le binary32 (fin true 16777215 (pos 104)) x true (16777215 * 2 ^ 253) (sign x) q (largest-is true) (z .is) (under-minus (16777215 * 2 ^ 253) (sign x) q b);
+      upto = under→le binary32 x largest (sign x) q false (16777215 * 2 ^ 253) (z .is) (largest-is false) (under-plus (16777215 * 2 ^ 253) (sign x) q b);
+    }

@@ -5,12 +5,12 @@ use native.Mathlib.Nat.{lt-of-le-of-lt, mod-lt, mod-le, mod-one, mul-one, one-mu
 use native.Mathlib.Omega.{arith}
 use mathlib.Core.Bool.{Bool, true, false, _&&_}
 use lib.IntN.{ℤ, pos, negsuc}
-use lib.Dec.{T, leb, ltb, eqb, ltb→lt, leb→le, lt→ltb, eqb→eq}
+use lib.Dec.{T, leb, ltb, eqb, ltb→lt, leb→le, eqb→eq}
 use lib.Pow.{pow-add, pow-pos, pow-mono}
-use lib.Ieee.{binary32, binary64, rem, Float, nan, inf, fin, Format, prec, emax, low, up, down, round, sum, add, lt, fits}
+use lib.Ieee.{binary32, binary64, rem, Float, nan, inf, fin, Format, prec, emax, low, up, down, round, sum, add, fits}
 use lib.Ieee.Fits.{and-l, and-r}
 use lib.Ieee.Scale.{round-same, overflow}
-use Rattle.line.proofs.Units.{Is, add-is, lt-is}
+use Rattle.line.proofs.Units.{Is, add-is}
 use Rattle.line.proofs.Rounds.{Rep, rep-zero, sign, exact-at, has-finite, down-exp}
 use Rattle.line.proofs.Exact.{unit-is}
 use Rattle.line.proofs.Mono.{Good, Under, under→le}
@@ -132,10 +132,6 @@ part-both f x s t p = record {
     right : (s : Bool) (q : ℕ) → q < 2 ^ low f → Under s q false (2 ^ low f)
     right false q h = le-of-lt h
     right true q h = omega arith
-
--- and below 1
-pub part-lt : (f : Format) (x : Float) → Part f x false → T (lt x one)
-part-lt f x p = subst T (sym (lt-is f x one false (p .size-of) false (2 ^ low f) (p .is) (unit-is f false))) (lt→ltb (p .size-of) (2 ^ low f) (p .small))
 
 plain : (f : Format) (q : ℕ) → sum f false q false 0 (2 ^ low f) ≡ round f false q (2 ^ low f)
 unfolding sum

@@ -10,6 +10,7 @@ use Rattle.line.proofs.Range.{in-of}
 use Rattle.float.specs.Consts.{k0, k1, k2, k0p5, kM128}
 use Rattle.envelope.specs.declared.Env.{Env}
 use Rattle.envelope.specs.Levels.{Level}
+use Rattle.vco.proofs.Kept.{turn-of}
 use Rattle.wobble.specs.Wobble.{newOf, driftNew}
 use Rattle.wobble.proofs.Kept.{Unit, Ratio, WobbleIn, DriftIn}
 use Rattle.dual.specs.declared.DualOsc.{DualOsc}
@@ -54,8 +55,8 @@ drift-in = record { cents = in-of binary32 kM128 (neg kM128) k0 tt tt tt tt; rat
 
 -- ---- its parts
 dual-in : DualIn dualNew
-unfolding dualNew
-dual-in = record { ph1 = unit-0; ph2 = unit-0; pitch = level-0; amp = level-128; amp2 = level-128; det1 = ratio-1; det2 = ratio-1; drift1 = drift-in; drift2 = drift-in }
+unfolding dualNew ofBits fits le lt eq
+dual-in = record { ph1 = turn-of _ tt; ph2 = turn-of _ tt; pitch = level-0; amp = level-128; amp2 = level-128; det1 = ratio-1; det2 = ratio-1; drift1 = drift-in; drift2 = drift-in }
 
 six : (P : Float → Type 0) (x : Float) → P x → Six P (replicate 6 x)
 six P x h = record { long = refl; each = λ k l. subst P (sym (getD-replicate 6 k x nan l)) h }

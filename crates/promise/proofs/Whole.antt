@@ -13,11 +13,12 @@ use Rattle.line.proofs.Range.{In, wideT, in-wide}
 use Rattle.float.specs.Consts.{k0, k1, k127, kM128}
 use Rattle.envelope.specs.Levels.{Equal}
 use Rattle.envelope.proofs.Ranges.{level-range}
+use Rattle.vco.proofs.Kept.{turn-below}
 use Rattle.board.specs.declared.Analog.{Analog}
 use Rattle.board.specs.Board.{takenOf, freshOf}
 use Rattle.promise.specs.Calls.{Call, wordsOf, reachedOf, Reached}
 use Rattle.promise.specs.Levels.{levelAt, Osc, dual1, dual2, hatOsc, cymOsc, phaseAt}
-use Rattle.promise.specs.Promise.{EachAccepted, Continues, targetOf, Within, Promise, Beyond, Promised}
+use Rattle.promise.specs.Promise.{EachAccepted, Continues, targetOf, Within, PhaseIn, Promise, Beyond, Promised}
 use Rattle.promise.proofs.Kept.{Good, good-levels, call-moves}
 use Rattle.promise.proofs.Start.{fresh-good}
 use Rattle.promise.proofs.Run.{reached-good, call-between, run-arrives, run-stays, run-stays-equal, settles, not-stopped}
@@ -28,12 +29,12 @@ use Rattle.promise.proofs.Words.{words-in}
 within : (lo hi a b x : Float) → In binary32 a b x → T (wideT binary32 lo hi a b) → Within lo hi x
 within lo hi a b x i t = let k = in-wide binary32 lo hi i t in record { from = k .from; upto = k .upto }
 
-good-phases : (b : Analog) → Good b → (o : Osc) → In binary32 k0 k1 (phaseAt b o)
-unfolding takenOf
-good-phases b g (dual1 d h) = g .sources .duals d h .ph1
-good-phases b g (dual2 d h) = g .sources .duals d h .ph2
-good-phases b g (hatOsc k h) = g .sources .hat .ph .each k h
-good-phases b g (cymOsc k h) = g .sources .cym .ph .each k h
+good-phases : (b : Analog) → Good b → (o : Osc) → PhaseIn o (phaseAt b o)
+unfolding takenOf ofBits fits le lt eq
+good-phases b g (dual1 d h) = turn-below _ (g .sources .duals d h .ph1)
+good-phases b g (dual2 d h) = turn-below _ (g .sources .duals d h .ph2)
+good-phases b g (hatOsc k h) = within _ _ k0 k1 _ (g .sources .hat .ph .each k h) tt
+good-phases b g (cymOsc k h) = within _ _ k0 k1 _ (g .sources .cym .ph .each k h) tt
 
 module _ (b : Analog) (g : Good b) (calls : List Call) where
   abbrev at : List Call → Analog
@@ -49,7 +50,7 @@ module _ (b : Analog) (g : Good b) (calls : List Call) where
   unfolding ofBits neg fits le lt eq
   promise = record {
     levels = λ w. within _ _ kM128 k127 (levelAt (at calls) w) (level-range (levelAt (at calls) w) (good-levels (at calls) (at-good calls) w)) tt;
-    phases = λ o. within _ _ k0 k1 (phaseAt (at calls) o) (good-phases (at calls) (at-good calls) o) tt;
+    phases = good-phases (at calls) (at-good calls);
     between = λ p w t. call-between (at (p .before)) (p .call) (at-good (p .before)) w t;
     arrives = λ p w bytes h n. run-arrives w bytes (at (p .before)) (p .run) (at-good (p .before)) h (omega arith);
     stays = λ p w bytes first later e h k.

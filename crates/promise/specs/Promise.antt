@@ -12,9 +12,10 @@ use Rattle.envelope.specs.Record.{recordOf}
 use Rattle.envelope.specs.Moves.{Move, given, stood, ticked, settle}
 use Rattle.envelope.specs.States.{NeverStops}
 use Rattle.envelope.specs.Levels.{Between, Equal}
+use Rattle.vco.specs.Vco.{BelowOne}
 use Rattle.board.specs.declared.Analog.{Analog}
 use Rattle.promise.specs.Calls.{Given, Call, givenOf, taken, wordsOf, nextOf, reachedOf}
-use Rattle.promise.specs.Levels.{Which, stateAt, levelAt, recordAt, moveAt, Osc, phaseAt}
+use Rattle.promise.specs.Levels.{Which, stateAt, levelAt, recordAt, moveAt, Osc, dual1, dual2, hatOsc, cymOsc, phaseAt}
 
 -- ---- the terms
 -- a call of the list, and "A stretch is any run of neighbouring calls of the list"
@@ -68,12 +69,21 @@ pub record Within (lo hi x : Float) : Type 0 where
   pub from : T (le lo x)
   pub upto : T (le x hi)
 
+-- "phases from 0 to 1", ends included; R-3 tightens the six of the dual voices, and those alone.
+-- A hat's or cymbal's phase can be exactly 1: it is drawn at a hit after silence, a random word of 2 ^ 32 - 1 draws 1 (`drawn-one` in crates/wobble/proofs), and where the
+-- record parks the level in the same step the bank stands still and the phase stays as drawn.
+abbrev pub PhaseIn : Osc → Float → Type 0
+PhaseIn (dual1 d h) x = BelowOne x
+PhaseIn (dual2 d h) x = BelowOne x
+PhaseIn (hatOsc k h) x = Within k0 k1 x
+PhaseIn (cymOsc k h) x = Within k0 k1 x
+
 -- ---- the promise, from board b on, of this list of calls
 pub record Promise (b : Analog) (calls : List Call) : Type 0 where
   -- "levels from -128 to 127"
   pub levels : (w : Which) → Within kM128 k127 (levelAt (reachedOf b calls) w)
-  -- "phases from 0 to 1"
-  pub phases : (o : Osc) → Within k0 k1 (phaseAt (reachedOf b calls) o)
+  -- "phases from 0 to 1", those of the dual voices below 1
+  pub phases : (o : Osc) → PhaseIn o (phaseAt (reachedOf b calls) o)
   -- "each tick between where the level stood and its target"
   pub between : (p : Place calls) (w : Which) → let s = reachedOf b (p .before) in
       T (tickedBy s (p .call) w) → let m = moveOf s (p .call) w in Between (stood m (levelAt s w)) (levelAt (nextOf s (p .call)) w) (given m .target)

@@ -1,18 +1,22 @@
--- A waveform of a phase from 0 to 1 lies from -2 to 2, and both phase rules end from 0 to 1. Assumes nothing.
-use mathlib.Core.Bool.{Bool, true, false}
+-- A waveform of a phase from 0 to 1 lies from -2 to 2, and both phase rules end from 0 to below 1. Assumes nothing.
+use mathlib.Core.Path.{_≡_, refl}
+use mathlib.Core.Bool.{Bool, true, false, _&&_, cond}
+use lib.Dec.{T}
 use lib.Ieee.{Float, binary32, neg, lt, le, eq, fits, ofBits}
-use Rattle.line.proofs.Range.{In, in-cond, in-wide, cut-high, cut-low, lt→le, not-lt, good-of}
+use lib.Ieee.Fits.{and-l, and-r, div-fits}
+use lib.Ieee.Scale.{finite}
+use Rattle.line.proofs.Range.{In, good, in-of, in-cond, in-wide, cut-high, cut-low, lt→le, le→lt, not-lt, good-of, largest, finite-in}
 use Rattle.float.specs.Consts.{k0, k1, k2, k3, k4, k8, k127, FS, k65535, k0p25, k0p3, k0p35, k0p45, k0p5, k0p7, k1p01, k1p3, TAU}
 use Rattle.float.specs.Ops.{_⊕_, _⊖_, _⊗_, _⊘_}
-use Rattle.float.specs.Floats.{minOf, fractOf}
+use Rattle.float.specs.Floats.{minOf, fractOf, remEuclidOf}
 use Rattle.float.proofs.Eval.{leaf, con, plus, minus, times, over, capped, range, proves}
-use Rattle.float.proofs.Laws.{fract-in, rem-euclid-in, abs-in}
+use Rattle.float.proofs.Laws.{fract-in, fract-below, rem-euclid-in, abs-in}
 use Rattle.sine.specs.Sine.{sinOf}
 use Rattle.sine.proofs.Laws.{sin-in}
 use Rattle.wobble.proofs.Kept.{Unit}
 use Rattle.vco.specs.declared.Wave.{Wave}
 use Rattle.vco.specs.declared.Wave.the-variants.{Off, Sine, AsymSine, Triangle, SineSaw, Saw, Square}
-use Rattle.vco.specs.Vco.{FM-UNITS, asymOf, waveAt, oscOf, modulated, advanced, advancedFm}
+use Rattle.vco.specs.Vco.{FM-UNITS, asymOf, waveAt, oscOf, modulated, advanced, advancedFm, BelowOne}
 
 -- from -2 to 2
 abbrev pub Wide : Float → Type 0
@@ -53,17 +57,43 @@ unfolding oscOf ofBits proves
 osc-in true w p h = range (neg k2) k2 (con k1) tt
 osc-in false w p h = wave-in w p h
 
--- ---- the first phase rule, at a frequency from 0 to 65535 Hz
-pub advanced-in : (p v : Float) → Unit p → In binary32 k0 k65535 v → Unit (advanced p v FS)
-unfolding advanced ofBits proves
-advanced-in p v h k = fract-in k3 (p ⊕ v ⊘ FS) (range k0 k3 (plus (leaf h) (over (leaf k) FS)) tt)
+-- ---- a phase from 0 to below 1
+pub record Turn (x : Float) : Type 0 where
+  pub unit : Unit x
+  pub below : T (lt x k1)
 
--- ---- the second: frequency modulation by o2, to the depth w; 1 itself can be reached
-pub advanced-fm-in : (fm : Bool) (p v w o : Float) → Unit p → In binary32 k0 k65535 v → In binary32 k0 k65535 w → Wide o → Unit (advancedFm p (modulated fm (minOf v (FS ⊗ k0p45)) w o) FS)
-unfolding advancedFm modulated ofBits proves
+-- of a constant, by computing
+pub turn-of : (x : Float) → T (good binary32 x && le k0 x && lt x k1) → Turn x
+unfolding ofBits fits
+turn-of x t =
+    let g = and-l (good binary32 x && le k0 x) (lt x k1) t in
+    let l = and-r (good binary32 x && le k0 x) (lt x k1) t in
+    record { unit = in-of binary32 k0 k1 x tt (good-of binary32 x (and-l (good binary32 x) (le k0 x) g) .0) (and-r (good binary32 x) (le k0 x) g) (lt→le x k1 l); below = l }
+
+pub turn-below : (x : Float) → Turn x → BelowOne x
+turn-below x h = record { from = h .unit .from; below = h .below }
+
+-- ---- the first phase rule, at a frequency from 0 to 65535 Hz
+pub advanced-in : (p v : Float) → Unit p → In binary32 k0 k65535 v → Turn (advanced p v FS)
+unfolding advanced ofBits proves
+advanced-in p v h k = let x = range k0 k3 (plus (leaf h) (over (leaf k) FS)) tt in record { unit = fract-in k3 (p ⊕ v ⊘ FS) x; below = fract-below k3 (p ⊕ v ⊘ FS) x }
+
+-- ---- the second, by any finite advance: a remainder of 1 becomes 0
+pub advanced-fm-below : (p v fs : Float) → T (fits binary32 p) → BelowOne p → T (finite (v ⊘ fs)) → Turn (advancedFm p v fs)
+unfolding advancedFm ofBits fits proves
+advanced-fm-below p v fs f h t =
+    let phase = in-of binary32 k0 k1 p tt f (h .from) (lt→le p k1 (h .below)) in
+    let sum = range (neg largest) largest (plus (leaf phase) (leaf (finite-in (v ⊘ fs) (div-fits binary32 v fs, t)))) tt in
+    by _ (turn-of _ tt) (remEuclidOf (p ⊕ v ⊘ fs) k1) (rem-euclid-in (p ⊕ v ⊘ fs) (sum .ok)) (eq (remEuclidOf (p ⊕ v ⊘ fs) k1) k1) refl
+  where
+    by : (z : Float) → Turn z → (r : Float) → Unit r → (b : Bool) → eq r k1 ≡ b → Turn (cond b z r)
+    by z h r i true e = h
+    by z h r i false e = record { unit = i; below = le→lt r k1 (i .upto) e }
+
+-- ---- in a voice: frequency modulation by o2, to the depth w
+pub advanced-fm-in : (fm : Bool) (p v w o : Float) → Turn p → In binary32 k0 k65535 v → In binary32 k0 k65535 w → Wide o → Turn (advancedFm p (modulated fm (minOf v (FS ⊗ k0p45)) w o) FS)
+unfolding modulated ofBits proves
 advanced-fm-in true p v w o h a b c =
-    rem-euclid-in (p ⊕ minOf v (FS ⊗ k0p45) ⊗ (k1 ⊕ w ⊘ FM-UNITS ⊗ o) ⊘ FS)
-    (range (neg k127) k127 (plus (leaf h) (over (times (capped (leaf a) (FS ⊗ k0p45)) (plus (con k1) (times (over (leaf b) FM-UNITS) (leaf c)))) FS)) tt .ok)
-advanced-fm-in false p v w o h a b c =
-    rem-euclid-in (p ⊕ minOf v (FS ⊗ k0p45) ⊘ FS)
-    (range (neg k127) k127 (plus (leaf h) (over (capped (leaf a) (FS ⊗ k0p45)) FS)) tt .ok)
+    advanced-fm-below p (minOf v (FS ⊗ k0p45) ⊗ (k1 ⊕ w ⊘ FM-UNITS ⊗ o)) FS (h .unit .ok .0) (turn-below p h)
+    (range (neg k127) k127 (over (times (capped (leaf a) (FS ⊗ k0p45)) (plus (con k1) (times (over (leaf b) FM-UNITS) (leaf c)))) FS) tt .ok .1)
+advanced-fm-in false p v w o h a b c = advanced-fm-below p (minOf v (FS ⊗ k0p45)) FS (h .unit .ok .0) (turn-below p h) (range (neg k127) k127 (over (capped (leaf a) (FS ⊗ k0p45)) FS) tt .ok .1)

@@ -1,6 +1,8 @@
 -- The dual-oscillator core, from vco.rs. Definitions only.
 use mathlib.Core.Bool.{Bool, true, false, _||_, cond}
-use lib.Ieee.{Float, neg, lt}
+use lib.Dec.{T}
+use lib.Ieee.{Float, neg, lt, le, eq}
+use lib.Ieee.Scale.{finite}
 use Rattle.float.specs.Consts.{k0, k1, k2, k4, k4096, k0p25, k0p3, k0p35, k0p45, k0p5, k0p7, k1p3, TAU}
 use Rattle.float.specs.Ops.{_⊕_, _⊖_, _⊗_, _⊘_}
 use Rattle.float.specs.Floats.{absOf, minOf, fractOf, remEuclidOf}
@@ -56,9 +58,18 @@ modulated fm f1 depth o2 = cond fm (f1 ⊗ (k1 ⊕ depth ⊘ FM-UNITS ⊗ o2)) f
 unfoldable pub advanced : Float → Float → Float → Float
 advanced ph hz fs = fractOf (ph ⊕ hz ⊘ fs)
 
--- "the FM phase uses a Euclidean remainder"
+-- "the FM phase uses a Euclidean remainder"; R-3: "A remainder that rounds to 1 now becomes 0"
 unfoldable pub advancedFm : Float → Float → Float → Float
-advancedFm ph hz fs = remEuclidOf (ph ⊕ hz ⊘ fs) k1
+advancedFm ph hz fs = let r = remEuclidOf (ph ⊕ hz ⊘ fs) k1 in cond (eq r k1) k0 r
+
+-- "from 0 to below 1"
+pub record BelowOne (x : Float) : Type 0 where
+  pub from : T (le k0 x)
+  pub below : T (lt x k1)
+
+-- R-3: "For a phase from 0 to below 1 and a finite advance, the modulated phase advance promises 'from 0 to below 1'"
+abbrev pub KeepsBelowOne : Float → Float → Float → Float → Type 0
+KeepsBelowOne ph hz fs r = BelowOne ph → T (finite (hz ⊘ fs)) → BelowOne r
 
 -- `Pair::sample`
 unfoldable pub pairOf : Pair → Osc2Set → Float → PairOut

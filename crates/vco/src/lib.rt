@@ -1,7 +1,7 @@
 // The dual-oscillator core of the BD, SD and RS voices: two oscillators, each with a waveform, and FM and ring modulation between them.
 ghost use mathlib.Core.Path.{_≡_};
 ghost use mathlib.Core.Bool.{Bool};
-ghost use Rattle.vco.specs.Vco.{fromBits, waveAt, asymOf, oscOf, ringOf, modulated, advanced, advancedFm, pairOf};
+ghost use Rattle.vco.specs.Vco.{fromBits, waveAt, asymOf, oscOf, ringOf, modulated, advanced, advancedFm, KeepsBelowOne, pairOf};
 
 // FM depth: units of oscillator 2's level word per 1.0 of relative frequency deviation.
 pub const FM_UNITS: f32 = 4096.0;
@@ -125,11 +125,13 @@ pub fn advance(ph: f32, hz: f32, fs: f32) -> f32
     float::fract(ph + hz / fs)
 }
 
-// The same of a modulated core, which can run backwards: the Euclidean remainder.
+// The same of a modulated core, which can run backwards: the Euclidean remainder, and 0 where that rounds to 1.
 pub fn advance_fm(ph: f32, hz: f32, fs: f32) -> f32
-    ensures { λ r. ⌜ r ≡ advancedFm ph hz fs ⌝ }
+    ensures is { λ r. ⌜ r ≡ advancedFm ph hz fs ⌝ }
+    ensures below { λ r. ⌜ KeepsBelowOne ph hz fs r ⌝ }
 {
-    float::rem_euclid_one(ph + hz / fs)
+    let r = float::rem_euclid_one(ph + hz / fs);
+    float::choose(r == 1.0, 0.0, r)
 }
 
 impl Pair {

@@ -10,7 +10,7 @@ use lib.Count.{leadingZeros}
 use lib.Dec.{ltb, le→leb}
 use lib.IntN.{pos}
 use lib.Pow.{pow-pos}
-use lib.Ieee.{Float, binary32, fin, neg, le, eq, mul, div, lt, fits, round, ofInt, ofBits, toBits}
+use lib.Ieee.{Float, binary32, fin, neg, le, eq, add, sub, mul, div, lt, fits, round, ofInt, ofBits, toBits}
 use Rattle.line.proofs.Range.{In, in-cond, in-wide, split}
 use Rattle.line.proofs.Rem.{nought-in}
 use Rattle.line.proofs.Whole.{ofInt-in}
@@ -70,6 +70,11 @@ phase-in w h = let r = uni-in w h in (r .0, in-cond binary32 k0 k1 (lt k0 (w .de
   where
     half : (u : Float) → Both u → Unit (k0p5 ⊗ (u ⊕ k1))
     half u k = unfold proves ofBits in range k0 k1 (times (con k0p5) (plus (leaf k) (con k1))) tt
+
+-- 1 itself is drawn: from this state the next random word is 4294967295, which is 2 ^ 32 as f32
+pub drawn-one : phaseOf (record { s = 0x5e6cfce7; depth = k1 }) .x ≡ k1
+unfolding phaseOf uniOf xorshiftOf ofBits ofInt round lt mul div add sub neg
+drawn-one = refl
 
 -- ---- the drift
 pub record DriftIn (d : Drift) : Type 0 where

@@ -39,7 +39,7 @@ choose-requires-3 c κs = search needs
 
 returns : tie.Need-returns
 unfolding pairOf
-returns c = rw (← c .before .before .before .before .before .before .before .before .before .before .before .before .osc .ensures, ← c .before .before .before .before .before .before .before .before .before .before .before .osc2 .ensures, ← c .before .before .before .before .before .before .before .before .before .before .ring .ensures, ← c .before .before .before .before .before .before .before .before .before .min .ensures, ← c .before .before .before .before .before .before .before .before .modulate .ensures, ← c .before .before .before .before .before .before .before .advance-fm .ensures, ← c .before .before .before .before .before .before .choose .ensures, ← c .before .before .before .before .before .min2 .ensures, ← c .before .before .before .before .advance .ensures, ← c .before .before .before .choose2 .ensures, ← c .choose3 .ensures)
+returns c = rw (← c .before .before .before .before .before .before .before .before .before .before .before .before .osc .ensures, ← c .before .before .before .before .before .before .before .before .before .before .before .osc2 .ensures, ← c .before .before .before .before .before .before .before .before .before .before .ring .ensures, ← c .before .before .before .before .before .before .before .before .before .min .ensures, ← c .before .before .before .before .before .before .before .before .modulate .ensures, ← c .before .before .before .before .before .before .before .advance-fm .ensures .0, ← c .before .before .before .before .before .before .choose .ensures, ← c .before .before .before .before .before .min2 .ensures, ← c .before .before .before .before .advance .ensures, ← c .before .before .before .choose2 .ensures, ← c .choose3 .ensures)
 
 pub sample-spec : {M : Type 1} → statement M
 sample-spec =

@@ -136,6 +136,11 @@ impl Met {
         self.add(FreshIdeal, ideal);
     }
 
+    /// How many FM phases had a remainder that rounds to 1.
+    pub fn fm_ones(&self) -> u64 {
+        self.sources.fm_ones()
+    }
+
     /// One step: the board before it, what it was given, and the Rust's answer.
     pub fn note(&mut self, before: &Analog, case: &Case, answer: &Answer) {
         self.answers[answer.number as usize] += 1;

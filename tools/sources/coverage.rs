@@ -1,6 +1,6 @@
 //! What the cases met, read off the Rust's states before and after a sample.
 
-use crate::oracle::analog as rust;
+use crate::oracle::{analog as rust, fm_ones};
 use crate::rytm::Env;
 use crate::state::{State, DUALS, SOURCES};
 use rust::{bit, word, Record};
@@ -24,7 +24,7 @@ counts! {
     Stop1 "dual: core 1 stopped, FM or ring",
     Stop2 "dual: core 2 stopped, FM or ring",
     Backwards "dual: FM phase falls by less than 0.2",
-    One "dual: FM phase rounds to exactly 1",
+    One "dual: FM phase's remainder rounds to 1",
     Silent "dual: silent at the floor",
     DualNan "dual: a phase or level not a number",
     HatHit "hat: hits",
@@ -93,6 +93,12 @@ impl Coverage {
         self.count[c as usize] += met as u64;
     }
 
+    /// How many FM phases had a remainder that rounds to 1.
+    #[allow(dead_code)]
+    pub fn fm_ones(&self) -> u64 {
+        self.count[Count::One as usize]
+    }
+
     pub fn note(&mut self, before: &State, after: &State, f: &[u8], dac: &[i32; 16], depth: f32) {
         use Count::*;
         self.add(Ideal, depth == 0.0);
@@ -117,7 +123,7 @@ impl Coverage {
                 self.add(Stop1, (fm || ring) && word(f, s.cv) == 0);
                 self.add(Stop2, (fm || ring) && word(f, s.cv + 2) == 0);
                 self.add(Backwards, fm && bit(f, s.sw[0]) <= b.trig && a.ph1 < b.ph1 && b.ph1 - a.ph1 < 0.2);
-                self.add(One, fm && a.ph1 == 1.0 && b.ph1 != 1.0);
+                self.count[One as usize] += fm_ones();
                 self.add(Silent, a.amp.level <= -127.5);
                 self.add(DualNan, (a.ph1 + a.ph2 + a.amp.level).is_nan());
             }

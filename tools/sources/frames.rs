@@ -95,6 +95,23 @@ fn hit_dual(rng: &mut Rng, f: &mut [u8], s: &rust::DualSpec, exps: (i32, i32)) {
     record(rng, f, s.env + 16, first, start, target, 0xF, exps);
     let (start, target) = (rng.pick(&[127, 127, 60, -128]), rng.pick(&[0, 0, 127, -128]));
     record(rng, f, s.env + 24, first, start, target, 0xF, exps);
+    if rng.one_in(16) {
+        creep(rng, f, s);
+    }
+}
+
+/// FM that all but stands still and goes a little backwards: oscillator 2 is a sinesaw, -0.3 at its start, and a level word just above
+/// 4096 / 0.3 makes the advance a tiny negative number. A phase of 0 then has a remainder that rounds to 1.
+fn creep(rng: &mut Rng, f: &mut [u8], s: &rust::DualSpec) {
+    for (o, low, count) in [(0, 1, 3), (2, 1, 4), (6, 13_654, 64)] {
+        let w = low + rng.below(count);
+        put(f, s.cv + o, w);
+    }
+    for (k, on) in [(0, true), (2, false), (3, false), (4, true), (6, true)] {
+        switch(f, s.sw[k], on);
+    }
+    record(rng, f, s.env, 0x4000, 0, 0, 0xF, (6, 12));
+    record(rng, f, s.env + 24, 0x4000, 127, 127, 0xF, (6, 12));
 }
 
 /// A tom's tune and decay; the exciter is the DAC's.

@@ -2,6 +2,7 @@
 
 use crate::fields::bits;
 use crate::oracle::analog::Record as RustRecord;
+use crate::oracle::fm_ones;
 use crate::oracle::vco::{Osc2Set as RustSet, Pair as RustPair, Wave};
 use crate::rng::Rng;
 use crate::states::Wild;
@@ -260,7 +261,7 @@ fn sample(rng: &mut Rng, steps: u64) -> u64 {
             met.ring += set.ring as u64;
             met.rates[RATES.iter().position(|r| *r == fs).unwrap_or(3)] += 1;
             met.backwards += (set.fm && pair.ph[0] < before.ph[0] && before.ph[0] - pair.ph[0] < 0.2) as u64;
-            met.one += (pair.ph[0] == 1.0 && before.ph[0] != 1.0) as u64;
+            met.one += fm_ones();
             met.nan += (pair.ph[0] + pair.ph[1] + y).is_nan() as u64;
         }
     }
@@ -271,7 +272,7 @@ fn sample(rng: &mut Rng, steps: u64) -> u64 {
     }
     let rates: Vec<String> = RATES.iter().zip(met.rates).map(|(r, n)| format!("{r} {n}")).collect();
     println!("  samples at rate {}, others {}; FM {}, ring {}", rates.join(", "), met.rates[3], met.fm, met.ring);
-    println!("  FM phase falls by less than 0.2: {}, rounds to exactly 1: {}; not a number {}", met.backwards, met.one, met.nan);
+    println!("  FM phase falls by less than 0.2: {}, has a remainder that rounds to 1: {}; not a number {}", met.backwards, met.one, met.nan);
     differ
 }
 

@@ -24,7 +24,7 @@ use Rattle.vco.proofs.Kept.{Turn, turn-of, osc-in, advanced-in, advanced-fm-in}
 use Rattle.wobble.specs.declared.Wobble.{Wobble}
 use Rattle.wobble.specs.declared.Drift.{Drift}
 use Rattle.wobble.specs.Wobble.{DETUNE-CENTS, detuneOf, driftOf}
-use Rattle.wobble.proofs.Kept.{Ratio, WobbleIn, DriftIn, detune-in, drift-in}
+use Rattle.wobble.proofs.Kept.{Ratio, WobbleIn, DriftIn, either, detune-in, drift-in}
 use Rattle.dual.specs.Consts.{HZ-PER-TUNE, TUNE-PER-PITCH-LEVEL}
 use Rattle.dual.specs.declared.DualOsc.{DualOsc}
 use Rattle.dual.specs.declared.Settings.{Settings}
@@ -77,10 +77,6 @@ pub record PhasesIn (s : Sound) : Type 0 where
   pub ph1 : Turn (s .ph1)
   pub ph2 : Turn (s .ph2)
 
-choose-in : (b : Bool) (x y : Float) → Turn x → Turn y → Turn (cond b x y)
-choose-in true x y h k = h
-choose-in false x y h k = k
-
 module _ (i : Settings) (p q f1 f2 a : Float) (P : Turn p) (Q : Turn q) (F1 : In binary32 k0 k65535 f1) (F2 : In binary32 k0 k65535 f2) where
   plain-in : PhasesIn (plainOf i p q f1 f2)
   unfolding plainOf
@@ -89,8 +85,8 @@ module _ (i : Settings) (p q f1 f2 a : Float) (P : Turn p) (Q : Turn q) (F1 : In
   paired-in : i .level2 ≤ 65535 → Level a → PhasesIn (pairedOf i p q f1 f2 a)
   unfolding pairedOf pairOf
   paired-in w l = record {
-    ph1 = choose-in (eqb (i .tune1) 0) p _ P (advanced-fm-in (i .fm) p f1 _ _ P F1 (depth-in (i .level2) a w l) (osc-in (eqb (i .tune2) 0) (i .wave2) q (Q .unit)));
-    ph2 = choose-in (eqb (i .tune2) 0) q _ Q (advanced-in q _ (Q .unit) (cut-in f2 F2));
+    ph1 = either Turn (eqb (i .tune1) 0) p _ P (advanced-fm-in (i .fm) p f1 _ _ P F1 (depth-in (i .level2) a w l) (osc-in (eqb (i .tune2) 0) (i .wave2) q (Q .unit)));
+    ph2 = either Turn (eqb (i .tune2) 0) q _ Q (advanced-in q _ (Q .unit) (cut-in f2 F2));
   }
 
   sound-in : i .level2 ≤ 65535 → Level a → PhasesIn (soundOf i p q f1 f2 a)

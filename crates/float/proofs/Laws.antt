@@ -1,7 +1,7 @@
 -- What a phase keeps and a word is bounded by: `fract` lies from 0 to below 1, `rem_euclid(1.0)` from 0 to 1, `to24` within ±8388607. Assumes nothing.
 use mathlib.Core.Path.{_≡_, refl, sym, ap, _∙_, subst}
 use mathlib.Core.Bool.{Bool, true, false, not}
-use Prim.Native.Nat.{ℕ, zero, suc, _+_, _*_, _%_, _^_, _≤_, _<_}
+use Prim.Native.Nat.{ℕ, zero, suc, _+_, _*_, _%_, _^_, _≤_, _<_, zero-le}
 use native.Mathlib.Nat.{mul-pos, add-zero, sub-zero, le-of-lt, lt-of-le-of-lt, zero-mul, zero-mod, lt-irrefl, zero-lt-suc}
 use native.Mathlib.Omega.{arith}
 use lib.IntN.{ℤ, pos, natAbs}
@@ -77,12 +77,9 @@ fract-not-one (fin false m e) f = let p = fract-part (fin false m e) (f, tt) ref
 fract-not-one (fin true m e) f =
     let r = rem binary32 (fin true m e) one in
     let p = rem-part binary32 (fin true m e) (f, tt) in
-    let low = under→le binary32 r nought true (p .size-of) false 0 (p .is) (nought-is binary32) (none (p .size-of + 0)) in
+    let low = under→le binary32 r nought true (p .size-of) false 0 (p .is) (nought-is binary32) zero-le in
     by (add binary32 r nought) (plus r (cut-high (part-both binary32 r true (rem-fits binary32 (fin true m e) one f) p) nought (unfold fits in tt) low))
   where
-    none : (n : ℕ) → 0 ≤ n
-    none n = omega arith
-
     plus : (y : Float) → In binary32 (fin true 1 (pos 0)) nought y → In binary32 (fin true 1 (pos 0)) nought (add binary32 y nought)
     plus y h = unfold fits add le lt eq in in-add binary32 (fin true 1 (pos 0)) nought h (in-self binary32 nought tt) tt
 

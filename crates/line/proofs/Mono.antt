@@ -22,6 +22,15 @@ Under false a true b = a + b ≡ 0
 Under true a false b = 0 ≤ a + b
 Under true a true b = b ≤ a
 
+-- what is at most m in size lies from -m to m
+pub under-minus : (m : ℕ) (s : Bool) (q : ℕ) → q ≤ m → Under true m s q
+under-minus m false q h = omega arith
+under-minus m true q h = h
+
+pub under-plus : (m : ℕ) (s : Bool) (q : ℕ) → q ≤ m → Under s q false m
+under-plus m false q h = h
+under-plus m true q h = omega arith
+
 pub pos-under : (o : ℕ) (s : Bool) (q : ℕ) (t : Bool) (r p p' : ℕ) → Pos o s q p → Pos o t r p' → p ≤ p' → Under s q t r
 pos-under o false q false r p p' h k l = omega arith
 pos-under o false q true r p p' h k l = omega arith

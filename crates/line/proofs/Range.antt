@@ -14,7 +14,7 @@ use lib.Ieee.Positive.{positive}
 use Rattle.line.proofs.Bools.{or-l, or-e}
 use Rattle.line.proofs.Units.{Is}
 use Rattle.line.proofs.Rounds.{sign, fits-sized, finite-between}
-use Rattle.line.proofs.Mono.{Good, Under, under→le, add-le, neg-le, neg-good, mul-up, mul-down, mul-swap, div-le, le-trans-good, nlt→le}
+use Rattle.line.proofs.Mono.{Good, under-minus, under-plus, under→le, add-le, neg-le, neg-good, mul-up, mul-down, mul-swap, div-le, le-trans-good, nlt→le}
 
 pub record In (f : Format) (lo hi x : Float) : Type 0 where
   pub low : Good f lo
@@ -192,14 +192,6 @@ up-to-largest m a j k P few is fine p = go (ltb k j) (ltb→lt k j) (nltb→le k
         back : k < j → j ≡ j - k + k
         back h = omega arith
     go false h i = subst (λ (z : ℕ). z ≤ 16777215 * P) (sym is) (mul-le-mul (omega arith) (subst (λ (z : ℕ). 2 ^ j ≤ z) (sym p) (pow-mono (i tt))))
-
-under-minus : (m : ℕ) (s : Bool) (q : ℕ) → q ≤ m → Under true m s q
-under-minus m false q h = omega arith
-under-minus m true q h = h
-
-under-plus : (m : ℕ) (s : Bool) (q : ℕ) → q ≤ m → Under s q false m
-under-plus m false q h = h
-under-plus m true q h = omega arith
 
 largest-is : (s : Bool) → Is binary32 (fin s 16777215 (pos 104)) s (16777215 * 2 ^ 253)
 largest-is s = (refl, refl)

@@ -13,7 +13,7 @@ use lib.Ieee.Scale.{round-same, overflow}
 use Rattle.line.proofs.Units.{Is, add-is}
 use Rattle.line.proofs.Rounds.{Rep, rep-zero, sign, exact-at, has-finite, down-exp}
 use Rattle.line.proofs.Exact.{unit-is}
-use Rattle.line.proofs.Mono.{Good, Under, under→le}
+use Rattle.line.proofs.Mono.{Good, under-minus, under-plus, under→le}
 use Rattle.line.proofs.Range.{In, good, good-of}
 
 abbrev pub nought : Float
@@ -121,17 +121,9 @@ part-both f x s t p = record {
   low = unit-good f true;
   high = unit-good f false;
   ok = part-good f x s t p;
-  from = under→le f (fin true 1 (pos 0)) x true (2 ^ low f) s (p .size-of) (unit-is f true) (p .is) (left s (p .size-of) (p .small));
-  upto = under→le f x one s (p .size-of) false (2 ^ low f) (p .is) (unit-is f false) (right s (p .size-of) (p .small));
+  from = under→le f (fin true 1 (pos 0)) x true (2 ^ low f) s (p .size-of) (unit-is f true) (p .is) (under-minus (2 ^ low f) s (p .size-of) (le-of-lt (p .small)));
+  upto = under→le f x one s (p .size-of) false (2 ^ low f) (p .is) (unit-is f false) (under-plus (2 ^ low f) s (p .size-of) (le-of-lt (p .small)));
 }
-  where
-    left : (s : Bool) (q : ℕ) → q < 2 ^ low f → Under true (2 ^ low f) s q
-    left false q h = omega arith
-    left true q h = le-of-lt h
-
-    right : (s : Bool) (q : ℕ) → q < 2 ^ low f → Under s q false (2 ^ low f)
-    right false q h = le-of-lt h
-    right true q h = omega arith
 
 plain : (f : Format) (q : ℕ) → sum f false q false 0 (2 ^ low f) ≡ round f false q (2 ^ low f)
 unfolding sum

@@ -8,13 +8,13 @@ use lib.Dec.{ltb, eqb}
 use lib.IntN.{ℤ}
 use borrow.Author.Tests.{ltb-false, eqb-true}
 use Rattle.board.specs.declared.Inputs.{Inputs}
-use Rattle.frame.specs.Offsets.{FRAME-BYTES}
+use Rattle.frame.specs.Offsets.{FRAME_BYTES}
 use Rattle.board.specs.declared.Outcome.{Outcome}
 use Rattle.board.specs.declared.Outcome.TheVariants.{ShortFrame, ShortParameters, DacCount}
-use Rattle.board.specs.Board.{accepted, refusalOf}
+use Rattle.board.specs.Board.{accepted, refusal_of}
 
 pub record Long (f : List ℕ) (dac : List ℤ) (fx : List ℕ) : Type 0 where
-  pub frame : FRAME-BYTES ≤ length f
+  pub frame : FRAME_BYTES ≤ length f
   pub dac16 : length dac ≡ 16
   pub parameters : 24 ≤ length fx
 
@@ -27,9 +27,9 @@ met : (t : Bool) (o p : Outcome) → accepted p ≡ false → accepted (cond t o
 met true o p e h = refl
 met false o p e h = absurd (true≢false (sym h ∙ e))
 
-pub accepted-long : (f : List ℕ) (dac : List ℤ) (fx : List ℕ) (x : Inputs) → accepted (refusalOf f dac fx x) ≡ true → Long f dac fx
-unfolding refusalOf
-accepted-long f dac fx x h =
-    let a = passed (ltb (length f) FRAME-BYTES) ShortFrame _ refl h in
+pub accepted_long : (f : List ℕ) (dac : List ℤ) (fx : List ℕ) (x : Inputs) → accepted (refusal_of f dac fx x) ≡ true → Long f dac fx
+unfolding refusal_of
+accepted_long f dac fx x h =
+    let a = passed (ltb (length f) FRAME_BYTES) ShortFrame _ refl h in
     let b = passed (ltb (length fx) 24) ShortParameters _ refl a.1 in
     record { frame = ltb-false _ _ a.0; dac16 = eqb-true _ _ (met (eqb (length dac) 16) _ DacCount refl b.1); parameters = ltb-false _ _ b.0 }

@@ -1,7 +1,7 @@
 // The voice board, and one step with its refusals.
 ghost use Rattle.std.specs.Prelude.{◌≡◌, Bool, ◌≤◌, ◌<◌, length};
-ghost use Rattle.frame.specs.Offsets.{FRAME-BYTES};
-ghost use Rattle.board.specs.Board.{fresh_of, number_of, in_range, allInRange, inputOk, inputsOk, refusalOf, refusedOf, words_of, steppedOf, answer_of};
+ghost use Rattle.frame.specs.Offsets.{FRAME_BYTES};
+ghost use Rattle.board.specs.Board.{fresh_of, number_of, in_range, all_in_range, input_ok, inputs_ok, refusal_of, refused_of, words_of, stepped_of, answer_of};
 
 use chain::Chain;
 use comp::Comp;
@@ -101,7 +101,7 @@ fn in_range(x: i32) -> bool
 }
 
 fn all_in_range(dac: &[i32]) -> bool
-    ensures { result ≡ allInRange dac.now }
+    ensures { result ≡ all_in_range dac.now }
 {
     let mut ok = true;
     let mut i = 0;
@@ -113,20 +113,20 @@ fn all_in_range(dac: &[i32]) -> bool
 }
 
 fn input_ok(x: f32) -> bool
-    ensures { result ≡ inputOk x }
+    ensures { result ≡ input_ok x }
 {
     (-1.0 <= x) & (x <= 1.0)
 }
 
 fn inputs_ok(x: Inputs) -> bool
-    ensures { result ≡ inputsOk x }
+    ensures { result ≡ inputs_ok x }
 {
     input_ok(x.audio.l) & input_ok(x.audio.r) & input_ok(x.ext.l) & input_ok(x.ext.r)
 }
 
 // The lowest that applies.
 pub fn refusal(f: &[u8], dac: &[i32], fx: &[u8], x: Inputs) -> Outcome
-    ensures { result ≡ refusalOf f.now dac.now fx.now x }
+    ensures { result ≡ refusal_of f.now dac.now fx.now x }
 {
     if f.len() < frame::FRAME_BYTES {
         return Outcome::ShortFrame;
@@ -147,7 +147,7 @@ pub fn refusal(f: &[u8], dac: &[i32], fx: &[u8], x: Inputs) -> Outcome
 }
 
 fn refused(board: Analog, outcome: Outcome) -> Answer
-    ensures { result ≡ refusedOf board outcome }
+    ensures { result ≡ refused_of board outcome }
 {
     Answer {
         outcome,
@@ -182,8 +182,8 @@ fn words(rx: [i32; 12], audio: Mix, mix: Mix) -> [i32; 12]
 
 // One sample.
 fn stepped(board: Analog, f: &[u8], dac: &[i32], fx: &[u8], x: Inputs) -> Answer
-    requires { (FRAME-BYTES ≤ length f.now) × (16 ≤ length dac.now) × (24 ≤ length fx.now) }
-    ensures { result ≡ steppedOf board f.now dac.now fx.now x }
+    requires { (FRAME_BYTES ≤ length f.now) × (16 ≤ length dac.now) × (24 ≤ length fx.now) }
+    ensures { result ≡ stepped_of board f.now dac.now fx.now x }
 {
     let duals = board.duals;
     let hat = board.hat;

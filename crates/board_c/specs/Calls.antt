@@ -8,8 +8,8 @@ use Rattle.promise.specs.Calls.{StepAnswer}
 use Rattle.board_c.specs.declared.Answer.{Answer}
 
 -- "four f32 inputs: audio left and right, ext left and right"
-unfoldable pub inputsOf : Float → Float → Float → Float → Inputs
-inputsOf al ar el er = record { audio = record { l = al; r = ar }; ext = record { l = el; r = er } }
+unfoldable pub inputs_of : Float → Float → Float → Float → Inputs
+inputs_of al ar el er = record { audio = record { l = al; r = ar }; ext = record { l = el; r = er } }
 
 -- an answer with its outcome as the table's number
 unfoldable pub numbered : Board.Answer → Answer

@@ -2,7 +2,7 @@
 ghost use Rattle.std.specs.Prelude.{◌≡◌};
 ghost use Rattle.board.specs.Board.{fresh_of};
 ghost use Rattle.promise.specs.Promise.{Promised};
-ghost use Rattle.board_c.specs.Calls.{inputsOf, Step};
+ghost use Rattle.board_c.specs.Calls.{inputs_of, Step};
 
 use board::{Analog, Inputs};
 use stereo::Mix;
@@ -35,7 +35,7 @@ pub extern "C" fn rytm_step(
     ext_l: f32,
     ext_r: f32,
 ) -> Answer
-    ensures { Step board frame.now dac.now fx.now (inputsOf audio_l audio_r ext_l ext_r) result }
+    ensures { Step board frame.now dac.now fx.now (inputs_of audio_l audio_r ext_l ext_r) result }
 {
     let x = Inputs {
         audio: Mix {

@@ -1,7 +1,7 @@
 // From the sources to the main bus: each voice's chain, its receive word and its share of the mix, then the master distortion.
 ghost use Rattle.std.specs.Prelude.{◌≡◌, Bool, ◌≤◌, ◌<◌, length, get_or, pos};
-ghost use Rattle.frame.specs.Offsets.{FRAME-BYTES, VCA-R};
-ghost use Rattle.bus.specs.Bus.{dacF, returnOf, contributionOf, addedOf, voicesOf, distortOf, masterOf};
+ghost use Rattle.frame.specs.Offsets.{FRAME_BYTES, VCA_R};
+ghost use Rattle.bus.specs.Bus.{dac_f, return_of, contribution_of, added_of, voices_of, distort_of, master_of};
 
 use chain::Chain;
 use stereo::Mix;
@@ -14,7 +14,7 @@ const DAC_POST: usize = 14;
 // DAC word i / 2^23.
 fn dac_f32(dac: &[i32], i: usize) -> f32
     requires { i < length dac.now }
-    ensures { result ≡ dacF dac.now i }
+    ensures { result ≡ dac_f dac.now i }
 {
     float::from_i32(dac[i]) / 8388608.0
 }
@@ -22,23 +22,23 @@ fn dac_f32(dac: &[i32], i: usize) -> f32
 // An FX return: DAC word i negated, / 2^23.
 fn returned(dac: &[i32], i: usize) -> f32
     requires { i < length dac.now }
-    ensures { result ≡ returnOf dac.now i }
+    ensures { result ≡ return_of dac.now i }
 {
     -float::from_i32(dac[i]) / 8388608.0
 }
 
 // What voice v adds to a side, whose VCA words stand from `vca` on.
 fn contribution(f: &[u8], vca: usize, v: usize, y: f32) -> f32
-    requires { (FRAME-BYTES ≤ length f.now) × (vca ≤ VCA-R) × (v < 8) }
-    ensures { result ≡ contributionOf f.now vca v y }
+    requires { (FRAME_BYTES ≤ length f.now) × (vca ≤ VCA_R) × (v < 8) }
+    ensures { result ≡ contribution_of f.now vca v y }
 {
     y * frame::word_f32(f, vca + 2 * v) / 32767.0
 }
 
 // The mix with voice v's sample, unless it is routed off.
 fn added(f: &[u8], v: usize, m: Mix, y: f32) -> Mix
-    requires { (FRAME-BYTES ≤ length f.now) × (v < 8) }
-    ensures { result ≡ addedOf f.now v m y }
+    requires { (FRAME_BYTES ≤ length f.now) × (v < 8) }
+    ensures { result ≡ added_of f.now v m y }
 {
     if frame::routed_off(f, v) {
         return m;
@@ -59,8 +59,8 @@ pub struct Bus {
 
 // Voices 0 to 7 in turn: each one's source and its DAC word through its chain.
 pub fn voices(chains: [Chain; 8], f: &[u8], dac: &[i32], src: [f32; 8]) -> Bus
-    requires { (FRAME-BYTES ≤ length f.now) × (16 ≤ length dac.now) }
-    ensures { result ≡ voicesOf f.now dac.now src chains }
+    requires { (FRAME_BYTES ≤ length f.now) × (16 ≤ length dac.now) }
+    ensures { result ≡ voices_of f.now dac.now src chains }
 {
     let mut chains = chains;
     let mut rx: [i32; 12] = [0; 12];
@@ -82,8 +82,8 @@ pub fn voices(chains: [Chain; 8], f: &[u8], dac: &[i32], src: [f32; 8]) -> Bus
 
 // The master distortion, of the amount word 0.
 fn distort(f: &[u8], m: Mix) -> Mix
-    requires { FRAME-BYTES ≤ length f.now }
-    ensures { result ≡ distortOf f.now m }
+    requires { FRAME_BYTES ≤ length f.now }
+    ensures { result ≡ distort_of f.now m }
 {
     let dist = float::clamp(frame::word_f32(f, frame::DIST) / 65536.0, 0.0, 1.0);
     if 0.0 < dist {
@@ -99,8 +99,8 @@ fn distort(f: &[u8], m: Mix) -> Mix
 
 // The FX returns before and after the distortion, written negated, and the external input.
 pub fn master(f: &[u8], dac: &[i32], m: Mix, ext: Mix) -> Mix
-    requires { (FRAME-BYTES ≤ length f.now) × (16 ≤ length dac.now) }
-    ensures { result ≡ masterOf f.now dac.now m ext }
+    requires { (FRAME_BYTES ≤ length f.now) × (16 ≤ length dac.now) }
+    ensures { result ≡ master_of f.now dac.now m ext }
 {
     let pre = Mix {
         l: m.l + returned(dac, DAC_PRE),

@@ -3,18 +3,18 @@ use Rattle.std.specs.Prelude.{ℕ, ◌+◌, ◌*◌, true, false, cond, List, Fl
 use Rattle.std.specs.Float.{nan}
 use Rattle.std.specs.Float.Ieee.{neg, lt, le}
 use Rattle.std.specs.Float.Ieee.Scale.{finite}
-use Rattle.float.specs.Consts.{k0, k1, k2, k8, k10, k12, k60, k64, k127, k256, k440, k512, k22000, k65536, k0p3, k0p45, k0p97, k1p01, FS, TAU, PI, LEVELS-PER-6DB}
+use Rattle.float.specs.Consts.{k0, k1, k2, k8, k10, k12, k60, k64, k127, k256, k440, k512, k22000, k65536, k0p3, k0p45, k0p97, k1p01, FS, TAU, PI, LEVELS_PER_6DB}
 use Rattle.float.specs.Ops.{◌⊕◌, ◌⊖◌, ◌⊗◌, ◌⊘◌}
-use Rattle.float.specs.Floats.{minOf, max_of, clampOf}
-use Rattle.frame.specs.Offsets.{OVR, FRQ, RES, AMP-ENV, FLT-ENV}
-use Rattle.frame.specs.Frame.{wordF, signedF, bytes_at, fltCode, fltTypeOf}
+use Rattle.float.specs.Floats.{min_of, max_of, clamp_of}
+use Rattle.frame.specs.Offsets.{OVR, FRQ, RES, AMP_ENV, FLT_ENV}
+use Rattle.frame.specs.Frame.{word_f, signed_f, bytes_at, flt_code, flt_type_of}
 use Rattle.frame.specs.declared.FltType.{FltType}
 use Rattle.frame.specs.declared.FltType.TheVariants.{Lp2, Lp1, Bp, Hp1, Hp2, Bs, Pk}
 use Rattle.envelope.specs.declared.SegEnv.{SegEnv}
-use Rattle.envelope.specs.Moves.{segOf}
-use Rattle.power.specs.Power.{exp2Of, expOf}
-use Rattle.sine.specs.Sine.{tanOf}
-use Rattle.tanh.specs.Tanh.{tanhOf}
+use Rattle.envelope.specs.Moves.{seg_of}
+use Rattle.power.specs.Power.{exp2_of, exp_of}
+use Rattle.sine.specs.Sine.{tan_of}
+use Rattle.tanh.specs.Tanh.{tanh_of}
 use Rattle.chain.specs.declared.Chain.{Chain}
 use Rattle.chain.specs.declared.ChainOut.{ChainOut}
 use Rattle.chain.specs.declared.Settings.{Settings}
@@ -23,66 +23,66 @@ use Rattle.chain.specs.declared.Multimode.{Multimode}
 use Rattle.chain.specs.declared.Filtered.{Filtered}
 
 -- what stands for an element past the end of a list, where no step looks
-abbrev pub noSeg : SegEnv
-noSeg = record { key = record { start = 0; target = 0; rate = 0 }; level = nan; hold = false; cmd = false }
+abbrev pub no_seg : SegEnv
+no_seg = record { key = record { start = 0; target = 0; rate = 0 }; level = nan; hold = false; cmd = false }
 
-abbrev pub noChain : Chain
-noChain = record { amp = noSeg; flt = noSeg; low = nan; band = nan; lp1 = nan }
+abbrev pub no_chain : Chain
+no_chain = record { amp = no_seg; flt = no_seg; low = nan; band = nan; lp1 = nan }
 
 -- `Chain::default`
-unfoldable pub chainNew : Chain
-chainNew =
+unfoldable pub chain_new : Chain
+chain_new =
     let e : SegEnv = record { key = record { start = 0; target = 0; rate = 0 }; level = k0; hold = false; cmd = false } in
     record { amp = e; flt = e; low = k0; band = k0; lp1 = k0 }
 
 -- voice v's words and records; the filter record's first word is the envelope's depth
-unfoldable pub settingsOf : List ℕ → ℕ → Settings
-settingsOf f v = record {
-  ovr = wordF f (OVR + 2 * v);
-  frq = signedF f (FRQ + 2 * v);
-  depth = signedF f (FLT-ENV + 8 * v);
-  res = wordF f (RES + 2 * v);
-  kind = fltTypeOf (fltCode f v);
-  ra = bytes_at f (AMP-ENV + 8 * v);
-  rf = bytes_at f (FLT-ENV + 8 * v);
+unfoldable pub settings_of : List ℕ → ℕ → Settings
+settings_of f v = record {
+  ovr = word_f f (OVR + 2 * v);
+  frq = signed_f f (FRQ + 2 * v);
+  depth = signed_f f (FLT_ENV + 8 * v);
+  res = word_f f (RES + 2 * v);
+  kind = flt_type_of (flt_code f v);
+  ra = bytes_at f (AMP_ENV + 8 * v);
+  rf = bytes_at f (FLT_ENV + 8 * v);
 }
 
 -- the overdriven sample
-unfoldable pub driveOf : Float → Float → Float
-driveOf word x =
-    let ovr = clampOf (word ⊘ k65536) k0 k1 in
+unfoldable pub drive_of : Float → Float → Float
+drive_of word x =
+    let ovr = clamp_of (word ⊘ k65536) k0 k1 in
     let drive = k1 ⊕ k8 ⊗ ovr ⊗ ovr in
-    cond (lt k1p01 drive) (tanhOf (x ⊗ drive) ⊘ max_of (tanhOf drive) k0p3) x
+    cond (lt k1p01 drive) (tanh_of (x ⊗ drive) ⊘ max_of (tanh_of drive) k0p3) x
 
 -- the cutoff in Hz, from FRQ, the depth and the filter's level
-unfoldable pub cutoffOf : Float → Float → Float → Float
-cutoffOf frq depth level =
+unfoldable pub cutoff_of : Float → Float → Float → Float
+cutoff_of frq depth level =
     let cv = frq ⊕ depth ⊗ (max_of level k0 ⊘ k127) in
-    clampOf (k440 ⊗ exp2Of ((cv ⊘ k512 ⊕ k64 ⊖ k60) ⊘ k12)) k10 k22000
+    clamp_of (k440 ⊗ exp2_of ((cv ⊘ k512 ⊕ k64 ⊖ k60) ⊘ k12)) k10 k22000
 
 -- the resonance, from 0 to 1
-unfoldable pub resOf : Float → Float
-resOf word = clampOf (word ⊘ (k127 ⊗ k256)) k0 k1
+unfoldable pub res_of : Float → Float
+res_of word = clamp_of (word ⊘ (k127 ⊗ k256)) k0 k1
 
 -- tangent, damping and quotients, of the cutoff and the resonance
-unfoldable pub coefsOf : Float → Float → Coefs
-coefsOf fc res =
-    let g = tanOf (PI ⊗ minOf fc (FS ⊗ k0p45) ⊘ FS) in
+unfoldable pub coefs_of : Float → Float → Coefs
+coefs_of fc res =
+    let g = tan_of (PI ⊗ min_of fc (FS ⊗ k0p45) ⊘ FS) in
     let k = k2 ⊗ (k1 ⊖ k0p97 ⊗ res) in
     let a1 = k1 ⊘ (k1 ⊕ g ⊗ (g ⊕ k)) in
     record { k = k; a1 = a1; a2 = g ⊗ a1; a3 = g ⊗ g ⊗ a1 }
 
 -- the multimode filter, a state-variable one: its next states and its outputs
-unfoldable pub multimodeOf : Float → Float → Float → Coefs → Multimode
-multimodeOf low band x c =
+unfoldable pub multimode_of : Float → Float → Float → Coefs → Multimode
+multimode_of low band x c =
     let v3 = x ⊖ low in
     let bp = c.a1 ⊗ band ⊕ c.a2 ⊗ v3 in
     let lp = low ⊕ c.a2 ⊗ band ⊕ c.a3 ⊗ v3 in
     record { low = k2 ⊗ lp ⊖ low; band = k2 ⊗ bp ⊖ band; lp = lp; bp = bp; hp = x ⊖ c.k ⊗ bp ⊖ lp }
 
 -- the one-pole
-unfoldable pub lp1Of : Float → Float → Float → Float
-lp1Of lp1 x fc = lp1 ⊕ (k1 ⊖ expOf (neg TAU ⊗ fc ⊘ FS)) ⊗ (x ⊖ lp1)
+unfoldable pub lp1_of : Float → Float → Float → Float
+lp1_of lp1 x fc = lp1 ⊕ (k1 ⊖ exp_of (neg TAU ⊗ fc ⊘ FS)) ⊗ (x ⊖ lp1)
 
 -- the output of each filter type
 unfoldable pub pick_of : FltType → Multimode → Float → Float → Float → Float → Float
@@ -95,28 +95,28 @@ pick_of Bs s lp1 x k res = s.lp ⊕ s.hp
 pick_of Pk s lp1 x k res = x ⊕ s.bp ⊗ k ⊗ k2 ⊗ res
 
 -- the filtered sample: where it is not finite it is 0 and the two integrators are cleared, not the one-pole
-unfoldable pub finiteOr : Multimode → Float → Float → Filtered
-finiteOr s lp1 y = cond (finite y) (record { low = s.low; band = s.band; lp1 = lp1; y = y }) (record { low = k0; band = k0; lp1 = lp1; y = k0 })
+unfoldable pub finite_or : Multimode → Float → Float → Filtered
+finite_or s lp1 y = cond (finite y) (record { low = s.low; band = s.band; lp1 = lp1; y = y }) (record { low = k0; band = k0; lp1 = lp1; y = k0 })
 
 -- the overdriven sample through the filter of the voice's type
-unfoldable pub filterOf : Chain → Settings → Float → Float → Filtered
-filterOf c i fc x =
-    let res = resOf i.res in
-    let q = coefsOf fc res in
-    let s = multimodeOf c.low c.band x q in
-    let lp1 = lp1Of c.lp1 x fc in
-    finiteOr s lp1 (pick_of i.kind s lp1 x q.k res)
+unfoldable pub filter_of : Chain → Settings → Float → Float → Filtered
+filter_of c i fc x =
+    let res = res_of i.res in
+    let q = coefs_of fc res in
+    let s = multimode_of c.low c.band x q in
+    let lp1 = lp1_of c.lp1 x fc in
+    finite_or s lp1 (pick_of i.kind s lp1 x q.k res)
 
 -- "the chain gain 0 at or below 0", else 2 ^ ((level - 127) / 16)
-unfoldable pub gainOf : Float → Float
-gainOf level = cond (le level k0) k0 (exp2Of ((level ⊖ k127) ⊘ LEVELS-PER-6DB))
+unfoldable pub gain_of : Float → Float
+gain_of level = cond (le level k0) k0 (exp2_of ((level ⊖ k127) ⊘ LEVELS_PER_6DB))
 
 -- `Chain::process`
-unfoldable pub processOf : List ℕ → ℕ → Float → Chain → ChainOut
-processOf f v x c =
-    let i = settingsOf f v in
-    let flt = segOf false i.rf c.flt in
-    let amp = segOf true i.ra c.amp in
-    let fc = cutoffOf i.frq i.depth flt.level in
-    let s = filterOf c i fc (driveOf i.ovr x) in
-    record { chain = record { amp = amp; flt = flt; low = s.low; band = s.band; lp1 = s.lp1 }; y = s.y ⊗ gainOf amp.level }
+unfoldable pub process_of : List ℕ → ℕ → Float → Chain → ChainOut
+process_of f v x c =
+    let i = settings_of f v in
+    let flt = seg_of false i.rf c.flt in
+    let amp = seg_of true i.ra c.amp in
+    let fc = cutoff_of i.frq i.depth flt.level in
+    let s = filter_of c i fc (drive_of i.ovr x) in
+    record { chain = record { amp = amp; flt = flt; low = s.low; band = s.band; lp1 = s.lp1 }; y = s.y ⊗ gain_of amp.level }

@@ -1,7 +1,7 @@
 // A voice's own chain after its source: overdrive, multimode filter under its envelope, amp.
 ghost use Rattle.std.specs.Prelude.{◌≡◌, Bool, ◌≤◌, ◌<◌, length};
-ghost use Rattle.frame.specs.Offsets.{FRAME-BYTES};
-ghost use Rattle.chain.specs.Chain.{chainNew, driveOf, cutoffOf, resOf, coefsOf, multimodeOf, lp1Of, pick_of, finiteOr, gainOf, settingsOf, filterOf, processOf};
+ghost use Rattle.frame.specs.Offsets.{FRAME_BYTES};
+ghost use Rattle.chain.specs.Chain.{chain_new, drive_of, cutoff_of, res_of, coefs_of, multimode_of, lp1_of, pick_of, finite_or, gain_of, settings_of, filter_of, process_of};
 
 use envelope::SegEnv;
 use frame::FltType;
@@ -38,8 +38,8 @@ pub struct Settings {
 
 impl Settings {
     fn read(f: &[u8], v: usize) -> Settings
-        requires { (FRAME-BYTES ≤ length f.now) × (v < 8) }
-        ensures { result ≡ settingsOf f.now v }
+        requires { (FRAME_BYTES ≤ length f.now) × (v < 8) }
+        ensures { result ≡ settings_of f.now v }
     {
         Settings {
             ovr: frame::word_f32(f, frame::OVR + 2 * v),
@@ -55,7 +55,7 @@ impl Settings {
 
 // OVR 0 is clean, full scale about 18 dB of drive into a soft clip.
 fn overdrive(word: f32, x: f32) -> f32
-    ensures { result ≡ driveOf word x }
+    ensures { result ≡ drive_of word x }
 {
     let ovr = float::clamp(word / 65536.0, 0.0, 1.0);
     let drive = 1.0 + 8.0 * ovr * ovr;
@@ -67,7 +67,7 @@ fn overdrive(word: f32, x: f32) -> f32
 
 // The cutoff in Hz: FRQ plus the envelope, one semitone a step, 440 Hz at 60.
 pub fn cutoff(frq: f32, depth: f32, level: f32) -> f32
-    ensures { result ≡ cutoffOf frq depth level }
+    ensures { result ≡ cutoff_of frq depth level }
 {
     let cv = frq + depth * (float::max(level, 0.0) / 127.0);
     let n = cv / 512.0 + 64.0;
@@ -75,7 +75,7 @@ pub fn cutoff(frq: f32, depth: f32, level: f32) -> f32
 }
 
 fn resonance(word: f32) -> f32
-    ensures { result ≡ resOf word }
+    ensures { result ≡ res_of word }
 {
     float::clamp(word / (127.0 * 256.0), 0.0, 1.0)
 }
@@ -90,7 +90,7 @@ pub struct Coefs {
 }
 
 fn coefficients(fc: f32, res: f32) -> Coefs
-    ensures { result ≡ coefsOf fc res }
+    ensures { result ≡ coefs_of fc res }
 {
     let g = sine::tan(float::PI * float::min(fc, float::FS * 0.45) / float::FS);
     let k = 2.0 * (1.0 - 0.97 * res);
@@ -115,7 +115,7 @@ pub struct Multimode {
 
 // A topology-preserving state-variable filter.
 fn filter(low: f32, band: f32, x: f32, c: Coefs) -> Multimode
-    ensures { result ≡ multimodeOf low band x c }
+    ensures { result ≡ multimode_of low band x c }
 {
     let v3 = x - low;
     let bp = c.a1 * band + c.a2 * v3;
@@ -130,7 +130,7 @@ fn filter(low: f32, band: f32, x: f32, c: Coefs) -> Multimode
 }
 
 fn one_pole(lp1: f32, x: f32, fc: f32) -> f32
-    ensures { result ≡ lp1Of lp1 x fc }
+    ensures { result ≡ lp1_of lp1 x fc }
 {
     let a = 1.0 - power::exp(-float::TAU * fc / float::FS);
     lp1 + a * (x - lp1)
@@ -161,7 +161,7 @@ pub struct Filtered {
 }
 
 fn replace(s: Multimode, lp1: f32, y: f32) -> Filtered
-    ensures { result ≡ finiteOr s lp1 y }
+    ensures { result ≡ finite_or s lp1 y }
 {
     if float::is_finite(y) {
         return Filtered {
@@ -181,7 +181,7 @@ fn replace(s: Multimode, lp1: f32, y: f32) -> Filtered
 
 // The filter of a chain with cutoff fc, on the driven sample x.
 fn run_filter(c: Chain, i: Settings, fc: f32, x: f32) -> Filtered
-    ensures { result ≡ filterOf c i fc x }
+    ensures { result ≡ filter_of c i fc x }
 {
     let res = resonance(i.res);
     let q = coefficients(fc, res);
@@ -193,7 +193,7 @@ fn run_filter(c: Chain, i: Settings, fc: f32, x: f32) -> Filtered
 
 // 127 is full scale, logarithmic below, 0 and under silent.
 fn gain(level: f32) -> f32
-    ensures { result ≡ gainOf level }
+    ensures { result ≡ gain_of level }
 {
     if level <= 0.0 {
         return 0.0;
@@ -203,7 +203,7 @@ fn gain(level: f32) -> f32
 
 impl Chain {
     pub fn new() -> Chain
-        ensures { result ≡ chainNew }
+        ensures { result ≡ chain_new }
     {
         let e = SegEnv {
             key: envelope::Key {
@@ -226,8 +226,8 @@ impl Chain {
 
     // One sample of voice v's chain.
     pub fn process(self, f: &[u8], v: usize, x: f32) -> ChainOut
-        requires { (FRAME-BYTES ≤ length f.now) × (v < 8) }
-        ensures { result ≡ processOf f.now v x self }
+        requires { (FRAME_BYTES ≤ length f.now) × (v < 8) }
+        ensures { result ≡ process_of f.now v x self }
     {
         let i = Settings::read(f, v);
         let rf = i.rf;

@@ -113,76 +113,76 @@ abbrev pub k40p3 : Float
 k40p3 = of_bits binary32 0x42213333
 
 -- -10.85
-abbrev pub kM10p85 : Float
-kM10p85 = neg (of_bits binary32 0x412d999a)
+abbrev pub k_m10p85 : Float
+k_m10p85 = neg (of_bits binary32 0x412d999a)
 
 -- -8.3
-abbrev pub kM8p3 : Float
-kM8p3 = neg (of_bits binary32 0x4104cccd)
+abbrev pub k_m8p3 : Float
+k_m8p3 = neg (of_bits binary32 0x4104cccd)
 
 -- -6.38
-abbrev pub kM6p38 : Float
-kM6p38 = neg (of_bits binary32 0x40cc28f6)
+abbrev pub k_m6p38 : Float
+k_m6p38 = neg (of_bits binary32 0x40cc28f6)
 
 -- -4.85
-abbrev pub kM4p85 : Float
-kM4p85 = neg (of_bits binary32 0x409b3333)
+abbrev pub k_m4p85 : Float
+k_m4p85 = neg (of_bits binary32 0x409b3333)
 
 -- -3.44
-abbrev pub kM3p44 : Float
-kM3p44 = neg (of_bits binary32 0x405c28f6)
+abbrev pub k_m3p44 : Float
+k_m3p44 = neg (of_bits binary32 0x405c28f6)
 
 -- -2.2
-abbrev pub kM2p2 : Float
-kM2p2 = neg (of_bits binary32 0x400ccccd)
+abbrev pub k_m2p2 : Float
+k_m2p2 = neg (of_bits binary32 0x400ccccd)
 
 -- -1.13
-abbrev pub kM1p13 : Float
-kM1p13 = neg (of_bits binary32 0x3f90a3d7)
+abbrev pub k_m1p13 : Float
+k_m1p13 = neg (of_bits binary32 0x3f90a3d7)
 
 -- -0.21
-abbrev pub kM0p21 : Float
-kM0p21 = neg (of_bits binary32 0x3e570a3d)
+abbrev pub k_m0p21 : Float
+k_m0p21 = neg (of_bits binary32 0x3e570a3d)
 
 -- -16.57
-abbrev pub kM16p57 : Float
-kM16p57 = neg (of_bits binary32 0x41848f5c)
+abbrev pub k_m16p57 : Float
+k_m16p57 = neg (of_bits binary32 0x41848f5c)
 
 -- -14.18
-abbrev pub kM14p18 : Float
-kM14p18 = neg (of_bits binary32 0x4162e148)
+abbrev pub k_m14p18 : Float
+k_m14p18 = neg (of_bits binary32 0x4162e148)
 
 -- -12.35
-abbrev pub kM12p35 : Float
-kM12p35 = neg (of_bits binary32 0x4145999a)
+abbrev pub k_m12p35 : Float
+k_m12p35 = neg (of_bits binary32 0x4145999a)
 
 -- -10.86
-abbrev pub kM10p86 : Float
-kM10p86 = neg (of_bits binary32 0x412dc28f)
+abbrev pub k_m10p86 : Float
+k_m10p86 = neg (of_bits binary32 0x412dc28f)
 
 -- -9.59
-abbrev pub kM9p59 : Float
-kM9p59 = neg (of_bits binary32 0x411970a4)
+abbrev pub k_m9p59 : Float
+k_m9p59 = neg (of_bits binary32 0x411970a4)
 
 -- -8.42
-abbrev pub kM8p42 : Float
-kM8p42 = neg (of_bits binary32 0x4106b852)
+abbrev pub k_m8p42 : Float
+k_m8p42 = neg (of_bits binary32 0x4106b852)
 
 -- -7.38
-abbrev pub kM7p38 : Float
-kM7p38 = neg (of_bits binary32 0x40ec28f6)
+abbrev pub k_m7p38 : Float
+k_m7p38 = neg (of_bits binary32 0x40ec28f6)
 
 -- -6.34
-abbrev pub kM6p34 : Float
-kM6p34 = neg (of_bits binary32 0x40cae148)
+abbrev pub k_m6p34 : Float
+k_m6p34 = neg (of_bits binary32 0x40cae148)
 
 -- -6.26
-abbrev pub kM6p26 : Float
-kM6p26 = neg (of_bits binary32 0x40c851ec)
+abbrev pub k_m6p26 : Float
+k_m6p26 = neg (of_bits binary32 0x40c851ec)
 
 -- -18.85, VOL 0
-abbrev pub kM18p85 : Float
-kM18p85 = neg (of_bits binary32 0x4196cccd)
+abbrev pub k_m18p85 : Float
+k_m18p85 = neg (of_bits binary32 0x4196cccd)
 
 pub record Constants : Type 0 where
   pub c20 : k20 ≡ near 20 1
@@ -212,21 +212,21 @@ pub record Constants : Type 0 where
   pub c3p5 : k3p5 ≡ near 7 2
   pub c28p8 : k28p8 ≡ near 144 5
   pub c40p3 : k40p3 ≡ near 403 10
-  pub cM10p85 : kM10p85 ≡ neg (near 217 20)
-  pub cM8p3 : kM8p3 ≡ neg (near 83 10)
-  pub cM6p38 : kM6p38 ≡ neg (near 319 50)
-  pub cM4p85 : kM4p85 ≡ neg (near 97 20)
-  pub cM3p44 : kM3p44 ≡ neg (near 86 25)
-  pub cM2p2 : kM2p2 ≡ neg (near 11 5)
-  pub cM1p13 : kM1p13 ≡ neg (near 113 100)
-  pub cM0p21 : kM0p21 ≡ neg (near 21 100)
-  pub cM16p57 : kM16p57 ≡ neg (near 1657 100)
-  pub cM14p18 : kM14p18 ≡ neg (near 709 50)
-  pub cM12p35 : kM12p35 ≡ neg (near 247 20)
-  pub cM10p86 : kM10p86 ≡ neg (near 543 50)
-  pub cM9p59 : kM9p59 ≡ neg (near 959 100)
-  pub cM8p42 : kM8p42 ≡ neg (near 421 50)
-  pub cM7p38 : kM7p38 ≡ neg (near 369 50)
-  pub cM6p34 : kM6p34 ≡ neg (near 317 50)
-  pub cM6p26 : kM6p26 ≡ neg (near 313 50)
-  pub cM18p85 : kM18p85 ≡ neg (near 377 20)
+  pub c_m10p85 : k_m10p85 ≡ neg (near 217 20)
+  pub c_m8p3 : k_m8p3 ≡ neg (near 83 10)
+  pub c_m6p38 : k_m6p38 ≡ neg (near 319 50)
+  pub c_m4p85 : k_m4p85 ≡ neg (near 97 20)
+  pub c_m3p44 : k_m3p44 ≡ neg (near 86 25)
+  pub c_m2p2 : k_m2p2 ≡ neg (near 11 5)
+  pub c_m1p13 : k_m1p13 ≡ neg (near 113 100)
+  pub c_m0p21 : k_m0p21 ≡ neg (near 21 100)
+  pub c_m16p57 : k_m16p57 ≡ neg (near 1657 100)
+  pub c_m14p18 : k_m14p18 ≡ neg (near 709 50)
+  pub c_m12p35 : k_m12p35 ≡ neg (near 247 20)
+  pub c_m10p86 : k_m10p86 ≡ neg (near 543 50)
+  pub c_m9p59 : k_m9p59 ≡ neg (near 959 100)
+  pub c_m8p42 : k_m8p42 ≡ neg (near 421 50)
+  pub c_m7p38 : k_m7p38 ≡ neg (near 369 50)
+  pub c_m6p34 : k_m6p34 ≡ neg (near 317 50)
+  pub c_m6p26 : k_m6p26 ≡ neg (near 313 50)
+  pub c_m18p85 : k_m18p85 ≡ neg (near 377 20)

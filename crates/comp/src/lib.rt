@@ -3,8 +3,8 @@ ghost use Rattle.std.specs.Prelude.{◌≡◌, Bool, ◌≤◌, ◌<◌, length}
 ghost use Rattle.float.specs.Consts.{k0p45};
 ghost use Rattle.float.specs.Ops.{◌⊗◌, ◌⊘◌};
 ghost use Rattle.comp.specs.Consts.{k1000};
-ghost use Rattle.comp.specs.Tables.{attackOf, releaseOf, ratioOf, volRow};
-ghost use Rattle.comp.specs.Comp.{compNew, settingsOf, peakOf, side_of, poleOf, sidechainOf, detectOf, coefOf, smoothOf, followOf, levelOf, softOf, reductionOf, mupDb, makeupOf, volFirst, volTurn, volOf, dbOf, gainOf, processOf};
+ghost use Rattle.comp.specs.Tables.{attack_of, release_of, ratio_of, vol_row};
+ghost use Rattle.comp.specs.Comp.{comp_new, settings_of, peak_of, side_of, pole_of, sidechain_of, detect_of, coef_of, smooth_of, follow_of, level_of, soft_of, reduction_of, mup_db, makeup_of, vol_first, vol_turn, vol_of, db_of, gain_of, process_of};
 
 use stereo::Mix;
 
@@ -93,7 +93,7 @@ const COMP_VOL: [VolRow; 9] = [
 
 // What a sample keeps of the envelope, of a time in seconds.
 fn coef(t: f32) -> f32
-    ensures { result ≡ coefOf t }
+    ensures { result ≡ coef_of t }
 {
     power::exp(-1.0 / (float::max(t, 0.00001) * float::FS))
 }
@@ -101,7 +101,7 @@ fn coef(t: f32) -> f32
 // The tables, each by its parameter's byte; past the end the last. An entry is read by its number written out: an index that is not
 // known copies the array, and of a known time the coefficient is a constant.
 fn attack(b: u8) -> f32
-    ensures { result ≡ coefOf (attackOf b ⊘ k1000) }
+    ensures { result ≡ coef_of (attack_of b ⊘ k1000) }
 {
     match b {
         0 => coef(COMP_ATK_MS[0] / 1000.0),
@@ -115,7 +115,7 @@ fn attack(b: u8) -> f32
 }
 
 fn release(b: u8) -> f32
-    ensures { result ≡ coefOf (k0p45 ⊗ releaseOf b) }
+    ensures { result ≡ coef_of (k0p45 ⊗ release_of b) }
 {
     match b {
         0 => coef(0.45 * COMP_REL_S[0]),
@@ -130,7 +130,7 @@ fn release(b: u8) -> f32
 }
 
 fn ratio(b: u8) -> f32
-    ensures { result ≡ ratioOf b }
+    ensures { result ≡ ratio_of b }
 {
     match b {
         0 => COMP_RATIO[0],
@@ -141,7 +141,7 @@ fn ratio(b: u8) -> f32
 }
 
 fn vol_row(i: usize) -> VolRow
-    ensures { result ≡ volRow i }
+    ensures { result ≡ vol_row i }
 {
     match i {
         0 => COMP_VOL[0],
@@ -174,7 +174,7 @@ pub struct Settings {
 impl Settings {
     fn read(p: &[u8]) -> Settings
         requires { 24 ≤ length p.now }
-        ensures { result ≡ settingsOf p.now }
+        ensures { result ≡ settings_of p.now }
     {
         Settings {
             thr: p[6] as f32,
@@ -192,7 +192,7 @@ impl Settings {
 // ---- detector
 
 fn peak(l: f32, r: f32) -> f32
-    ensures { result ≡ peakOf l r }
+    ensures { result ≡ peak_of l r }
 {
     float::max(float::abs(l), float::abs(r))
 }
@@ -206,14 +206,14 @@ fn side(x: f32, l: f32, r: f32) -> f32
 
 // A one-pole low-pass: how far a sample moves it.
 fn pole(hz: f32) -> f32
-    ensures { result ≡ poleOf hz }
+    ensures { result ≡ pole_of hz }
 {
     1.0 - power::exp(-float::TAU * hz / float::FS)
 }
 
 // The low-passes at 400 and 2500 Hz.
 fn sidechain(sc: Sc, s: f32) -> Sc
-    ensures { result ≡ sidechainOf sc s }
+    ensures { result ≡ sidechain_of sc s }
 {
     let a_lo = pole(400.0);
     let a_hi = pole(2500.0);
@@ -225,7 +225,7 @@ fn sidechain(sc: Sc, s: f32) -> Sc
 
 // SEQ 1 LPF, 2 HPF, 3 HIT (a weighting of high frequencies), else OFF.
 fn detect(seq: u8, x: f32, s: f32, sc: Sc) -> f32
-    ensures { result ≡ detectOf seq x s sc }
+    ensures { result ≡ detect_of seq x s sc }
 {
     match seq {
         1 => float::abs(sc.lo) * 1.6,
@@ -236,7 +236,7 @@ fn detect(seq: u8, x: f32, s: f32, sc: Sc) -> f32
 }
 
 fn smooth(rises: bool, atk: u8, rel: u8) -> f32
-    ensures { result ≡ smoothOf rises atk rel }
+    ensures { result ≡ smooth_of rises atk rel }
 {
     if rises {
         return attack(atk);
@@ -245,7 +245,7 @@ fn smooth(rises: bool, atk: u8, rel: u8) -> f32
 }
 
 fn follow(env: f32, det: f32, atk: u8, rel: u8) -> f32
-    ensures { result ≡ followOf env det atk rel }
+    ensures { result ≡ follow_of env det atk rel }
 {
     let c = smooth(env < det, atk, rel);
     det + c * (env - det)
@@ -254,14 +254,14 @@ fn follow(env: f32, det: f32, atk: u8, rel: u8) -> f32
 // ---- gains, in dB
 
 fn level(env: f32) -> f32
-    ensures { result ≡ levelOf env }
+    ensures { result ≡ level_of env }
 {
     20.0 * log10::log10(float::max(env, 0.000001))
 }
 
 // What the knee lets through of a level over the threshold.
 fn soft(over: f32) -> f32
-    ensures { result ≡ softOf over }
+    ensures { result ≡ soft_of over }
 {
     let knee = 20.0;
     if over <= -knee / 2.0 {
@@ -275,14 +275,14 @@ fn soft(over: f32) -> f32
 }
 
 fn reduction(env: f32, thr: f32, rat: u8) -> f32
-    ensures { result ≡ reductionOf env thr rat }
+    ensures { result ≡ reduction_of env thr rat }
 {
     let t_db = -0.9 * (105.0 - thr);
     soft(level(env) - t_db) * (1.0 - 1.0 / ratio(rat))
 }
 
 fn mup_db(m: f32) -> f32
-    ensures { result ≡ mupDb m }
+    ensures { result ≡ mup_db m }
 {
     if m <= 48.0 {
         return 0.6 * m;
@@ -292,14 +292,14 @@ fn mup_db(m: f32) -> f32
 
 // The make-up, anchored so that MUP 47 leaves the wet path at unity.
 fn makeup(m: f32) -> f32
-    ensures { result ≡ makeupOf m }
+    ensures { result ≡ makeup_of m }
 {
     mup_db(m) - mup_db(47.0)
 }
 
 // The first row, extended below by 0.2 dB a step.
 fn vol_first(vol: f32) -> f32
-    ensures { result ≡ volFirst vol }
+    ensures { result ≡ vol_first vol }
 {
     let first = vol_row(0);
     if vol < first.vol {
@@ -311,7 +311,7 @@ fn vol_first(vol: f32) -> f32
 // The line from row i to the next, where VOL lies on it.
 fn vol_turn(out: f32, i: usize, vol: f32) -> f32
     requires { i < 8 }
-    ensures { result ≡ volTurn vol i out }
+    ensures { result ≡ vol_turn vol i out }
 {
     let a = vol_row(i);
     let b = vol_row(i + 1);
@@ -323,7 +323,7 @@ fn vol_turn(out: f32, i: usize, vol: f32) -> f32
 }
 
 fn vol_db(vol: f32) -> f32
-    ensures { result ≡ volOf vol }
+    ensures { result ≡ vol_of vol }
 {
     let mut out = vol_first(vol);
     let mut i: usize = 0;
@@ -335,14 +335,14 @@ fn vol_db(vol: f32) -> f32
 }
 
 fn db(x: f32) -> f32
-    ensures { result ≡ dbOf x }
+    ensures { result ≡ db_of x }
 {
     power::pow10(x / 20.0)
 }
 
 // The crossfade of MIX, of the two gains in dB.
 fn gain(dry: f32, wet: f32, mix: f32) -> f32
-    ensures { result ≡ gainOf dry wet mix }
+    ensures { result ≡ gain_of dry wet mix }
 {
     let m = float::clamp(mix / 127.0, 0.0, 1.0);
     db(dry) * (1.0 - m) + db(wet) * m
@@ -350,7 +350,7 @@ fn gain(dry: f32, wet: f32, mix: f32) -> f32
 
 impl Comp {
     pub fn new() -> Comp
-        ensures { result ≡ compNew }
+        ensures { result ≡ comp_new }
     {
         Comp {
             env: 0.0,
@@ -361,7 +361,7 @@ impl Comp {
     // One sample of the mix, by the FX parameters.
     pub fn process(self, p: &[u8], l: f32, r: f32) -> CompOut
         requires { 24 ≤ length p.now }
-        ensures { result ≡ processOf p.now l r self }
+        ensures { result ≡ process_of p.now l r self }
     {
         let i = Settings::read(p);
         let x = peak(l, r);

@@ -1,17 +1,17 @@
 // The curves under C names: floats to floats, an answer for every bit pattern, and each with what document 01 promises of it.
 ghost use Rattle.std.specs.Prelude.{◌≡◌};
-ghost use Rattle.power.specs.Power.{exp2Of, expOf, pow10Of};
+ghost use Rattle.power.specs.Power.{exp2_of, exp_of, pow10_of};
 ghost use Rattle.power.specs.Near.{Exp2Near, ExpNear, Pow10Near};
-ghost use Rattle.sine.specs.Sine.{sinOf, cosOf, tanOf, Sine, Tangent};
-ghost use Rattle.tanh.specs.Tanh.{tanhOf};
+ghost use Rattle.sine.specs.Sine.{sin_of, cos_of, tan_of, Sine, Tangent};
+ghost use Rattle.tanh.specs.Tanh.{tanh_of};
 ghost use Rattle.tanh.specs.Near.{TanhNear};
-ghost use Rattle.log10.specs.Log10.{log10Of};
+ghost use Rattle.log10.specs.Log10.{log10_of};
 ghost use Rattle.log10.specs.Near.{Log10Near};
-ghost use Rattle.root.specs.Root.{sqrtOf, Root};
+ghost use Rattle.root.specs.Root.{sqrt_of, Root};
 
 #[unsafe(no_mangle)]
 pub extern "C" fn rytm_exp2(x: f32) -> f32
-    ensures is { result ≡ exp2Of x }
+    ensures is { result ≡ exp2_of x }
     ensures near { Exp2Near x result }
 {
     power::exp2(x)
@@ -19,7 +19,7 @@ pub extern "C" fn rytm_exp2(x: f32) -> f32
 
 #[unsafe(no_mangle)]
 pub extern "C" fn rytm_exp(x: f32) -> f32
-    ensures is { result ≡ expOf x }
+    ensures is { result ≡ exp_of x }
     ensures near { ExpNear x result }
 {
     power::exp(x)
@@ -27,7 +27,7 @@ pub extern "C" fn rytm_exp(x: f32) -> f32
 
 #[unsafe(no_mangle)]
 pub extern "C" fn rytm_pow10(x: f32) -> f32
-    ensures is { result ≡ pow10Of x }
+    ensures is { result ≡ pow10_of x }
     ensures near { Pow10Near x result }
 {
     power::pow10(x)
@@ -35,7 +35,7 @@ pub extern "C" fn rytm_pow10(x: f32) -> f32
 
 #[unsafe(no_mangle)]
 pub extern "C" fn rytm_sin(x: f32) -> f32
-    ensures is { result ≡ sinOf x }
+    ensures is { result ≡ sin_of x }
     ensures near { Sine 0 x result }
 {
     sine::sin(x)
@@ -43,7 +43,7 @@ pub extern "C" fn rytm_sin(x: f32) -> f32
 
 #[unsafe(no_mangle)]
 pub extern "C" fn rytm_cos(x: f32) -> f32
-    ensures is { result ≡ cosOf x }
+    ensures is { result ≡ cos_of x }
     ensures near { Sine 1 x result }
 {
     sine::cos(x)
@@ -51,7 +51,7 @@ pub extern "C" fn rytm_cos(x: f32) -> f32
 
 #[unsafe(no_mangle)]
 pub extern "C" fn rytm_tan(x: f32) -> f32
-    ensures is { result ≡ tanOf x }
+    ensures is { result ≡ tan_of x }
     ensures near { Tangent x result }
 {
     sine::tan(x)
@@ -59,7 +59,7 @@ pub extern "C" fn rytm_tan(x: f32) -> f32
 
 #[unsafe(no_mangle)]
 pub extern "C" fn rytm_tanh(x: f32) -> f32
-    ensures is { result ≡ tanhOf x }
+    ensures is { result ≡ tanh_of x }
     ensures near { TanhNear x result }
 {
     tanh::tanh(x)
@@ -67,7 +67,7 @@ pub extern "C" fn rytm_tanh(x: f32) -> f32
 
 #[unsafe(no_mangle)]
 pub extern "C" fn rytm_log10(x: f32) -> f32
-    ensures is { result ≡ log10Of x }
+    ensures is { result ≡ log10_of x }
     ensures near { Log10Near x result }
 {
     log10::log10(x)
@@ -75,7 +75,7 @@ pub extern "C" fn rytm_log10(x: f32) -> f32
 
 #[unsafe(no_mangle)]
 pub extern "C" fn rytm_sqrt(x: f32) -> f32
-    ensures is { result ≡ sqrtOf x }
+    ensures is { result ≡ sqrt_of x }
     ensures nearest { Root x result }
 {
     root::sqrt(x)

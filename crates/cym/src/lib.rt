@@ -1,8 +1,8 @@
 // The cymbal and cowbell: the metal bank through five filtered paths, each under one of eight envelopes.
 ghost use Rattle.std.specs.Prelude.{◌≡◌, Bool, ◌≤◌, ◌<◌, max, length};
-ghost use Rattle.frame.specs.Offsets.{FRAME-BYTES};
-ghost use Rattle.lists.specs.Turns.{eachOf};
-ghost use Rattle.cym.specs.Cym.{cymNew, recordAt, envAt, modesAt, hitAt, anyHit, no_env, quietOf, coefficientOf, pathOf, pathsOf, soundOf, sampleOf};
+ghost use Rattle.frame.specs.Offsets.{FRAME_BYTES};
+ghost use Rattle.lists.specs.Turns.{each_of};
+ghost use Rattle.cym.specs.Cym.{cym_new, record_at, env_at, modes_at, hit_at, any_hit, no_env, quiet_of, coefficient_of, path_of, paths_of, sound_of, sample_of};
 
 use envelope::Env;
 use metal::Svf;
@@ -29,22 +29,22 @@ pub struct CymOut {
 // ---- the eight envelopes
 
 fn record(f: &[u8], r: usize) -> [u8; 8]
-    requires { (FRAME-BYTES ≤ length f.now) × (r < 8) }
-    ensures { result ≡ recordAt f.now r }
+    requires { (FRAME_BYTES ≤ length f.now) × (r < 8) }
+    ensures { result ≡ record_at f.now r }
 {
     frame::bytes(f, frame::CYM_ENV + 8 * r)
 }
 
 fn env_at(f: &[u8], mode: [u8; 8], r: usize, e: Env) -> Env
-    requires { (FRAME-BYTES ≤ length f.now) × (r < 8) }
-    ensures { result ≡ envAt f.now mode r e }
+    requires { (FRAME_BYTES ≤ length f.now) × (r < 8) }
+    ensures { result ≡ env_at f.now mode r e }
 {
     e.hit(mode[r], record(f, r))
 }
 
 fn envs(f: &[u8], env: [Env; 8], mode: [u8; 8]) -> [Env; 8]
-    requires { FRAME-BYTES ≤ length f.now }
-    ensures { result ≡ eachOf 8 (envAt f.now mode) no_env env }
+    requires { FRAME_BYTES ≤ length f.now }
+    ensures { result ≡ each_of 8 (env_at f.now mode) no_env env }
 {
     let mut a = env;
     let mut r: usize = 0;
@@ -58,8 +58,8 @@ fn envs(f: &[u8], env: [Env; 8], mode: [u8; 8]) -> [Env; 8]
 }
 
 fn modes(f: &[u8]) -> [u8; 8]
-    requires { FRAME-BYTES ≤ length f.now }
-    ensures { result ≡ modesAt f.now }
+    requires { FRAME_BYTES ≤ length f.now }
+    ensures { result ≡ modes_at f.now }
 {
     [
         envelope::mode_of(record(f, 0)),
@@ -75,7 +75,7 @@ fn modes(f: &[u8]) -> [u8; 8]
 
 // Whether a record starts: mode F after another mode.
 fn hit(now: [u8; 8], was: [u8; 8]) -> bool
-    ensures { result ≡ anyHit now was }
+    ensures { result ≡ any_hit now was }
 {
     let mut any = false;
     let mut r: usize = 0;
@@ -88,7 +88,7 @@ fn hit(now: [u8; 8], was: [u8; 8]) -> bool
 
 // Whether every level is at its floor.
 fn quiet(env: [Env; 8]) -> bool
-    ensures { result ≡ quietOf env }
+    ensures { result ≡ quiet_of env }
 {
     let mut all = true;
     let mut r: usize = 0;
@@ -118,7 +118,7 @@ pub struct Metal {
 
 // A path's coefficient: the colour moves its centre, but not the cowbell's.
 fn coefficient(hz: f32, fixed: bool, ratio: f32) -> f32
-    ensures { result ≡ coefficientOf hz fixed ratio }
+    ensures { result ≡ coefficient_of hz fixed ratio }
 {
     let fc = float::choose(fixed, hz, hz * ratio);
     2.0 * sine::sin(float::PI * float::min(fc, 16000.0) / float::FS)
@@ -126,7 +126,7 @@ fn coefficient(hz: f32, fixed: bool, ratio: f32) -> f32
 
 fn path(s: Paths, p: usize, m: Metal, env: [Env; 8]) -> Paths
     requires { p < 5 }
-    ensures { result ≡ pathOf m env p s }
+    ensures { result ≡ path_of m env p s }
 {
     let c = frame::cym_path(p);
     let r = c.rec;
@@ -150,7 +150,7 @@ fn path(s: Paths, p: usize, m: Metal, env: [Env; 8]) -> Paths
 }
 
 fn all_paths(svf: [Svf; 5], m: Metal, env: [Env; 8]) -> Paths
-    ensures { result ≡ pathsOf svf m env }
+    ensures { result ≡ paths_of svf m env }
 {
     let mut s = Paths { svf, out: 0.0 };
     let mut p: usize = 0;
@@ -169,7 +169,7 @@ fn at_least_one(n: u32) -> u32
 
 impl Cym {
     pub fn new() -> Cym
-        ensures { result ≡ cymNew }
+        ensures { result ≡ cym_new }
     {
         let e = Env { level: -128.0 };
         let s = Svf {
@@ -187,8 +187,8 @@ impl Cym {
 
     // The bank through the paths, of a cymbal that sounds.
     fn sound(self, f: &[u8], w: Wobble) -> CymOut
-        requires { FRAME-BYTES ≤ length f.now }
-        ensures { result ≡ soundOf f.now self w }
+        requires { FRAME_BYTES ≤ length f.now }
+        ensures { result ≡ sound_of f.now self w }
     {
         let ph = self.ph;
         let det = self.det;
@@ -219,8 +219,8 @@ impl Cym {
     }
 
     pub fn sample(self, f: &[u8], w: Wobble) -> CymOut
-        requires { FRAME-BYTES ≤ length f.now }
-        ensures { result ≡ sampleOf f.now self w }
+        requires { FRAME_BYTES ≤ length f.now }
+        ensures { result ≡ sample_of f.now self w }
     {
         let was = self.env;
         let mode = self.mode;

@@ -6,4 +6,4 @@ use Rattle.dual.specs.Consts.{Constants}
 
 pub constants : Constants
 unfolding near round mul div of_bits
-constants = record { cHZ-PER-TUNE = refl; cTUNE-PER-PITCH-LEVEL = refl }
+constants = record { c_hz_per_tune = refl; c_tune_per_pitch_level = refl }

@@ -2,8 +2,8 @@
 use mathlib.Core.Path.{◌≡◌, sym, subst}
 use Prim.Native.Nat.{ℕ}
 use Rattle.frame.specs.declared.DualSpec.{DualSpec}
-use Rattle.frame.specs.Offsets.{dualSpec}
-use Rattle.frame.proofs.Tables.{DualInside, dual-inside}
+use Rattle.frame.specs.Offsets.{dual_spec}
+use Rattle.frame.proofs.Tables.{DualInside, dual_inside_lem}
 
-pub inside : {s : DualSpec} (d : ℕ) → s ≡ dualSpec d → DualInside s
-inside {s} d e = subst DualInside (sym e) (dual-inside d)
+pub inside : {s : DualSpec} (d : ℕ) → s ≡ dual_spec d → DualInside s
+inside {s} d e = subst DualInside (sym e) (dual_inside_lem d)

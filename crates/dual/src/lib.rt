@@ -1,7 +1,7 @@
 // A dual-oscillator voice: BD, SD or RS.
 ghost use Rattle.std.specs.Prelude.{◌≡◌, Bool, ◌≤◌, ◌<◌, length};
-ghost use Rattle.frame.specs.Offsets.{FRAME-BYTES};
-ghost use Rattle.dual.specs.Dual.{dualNew, switchAt, cvAt, recordAt, settingsOf, trigOf, hzOf, gainOf, wordLevel, pairedOf, plain_of, soundOf, sampleOf};
+ghost use Rattle.frame.specs.Offsets.{FRAME_BYTES};
+ghost use Rattle.dual.specs.Dual.{dual_new, switch_at, cv_at, record_at, settings_of, trig_of, hz_of, gain_of, word_level, paired_of, plain_of, sound_of, sample_of};
 
 use envelope::Env;
 use vco::{Osc2Set, Pair, Wave};
@@ -60,31 +60,31 @@ pub struct Settings {
 
 // Voice d's switch k, its CV word k and its record k.
 fn switch(f: &[u8], d: usize, k: usize) -> bool
-    requires { (FRAME-BYTES ≤ length f.now) × (k < 7) }
-    ensures { result ≡ switchAt f.now d k }
+    requires { (FRAME_BYTES ≤ length f.now) × (k < 7) }
+    ensures { result ≡ switch_at f.now d k }
 {
     let sw = frame::dual_spec(d).sw;
     frame::bit(f, sw[k])
 }
 
 fn cv(f: &[u8], d: usize, k: usize) -> u16
-    requires { (FRAME-BYTES ≤ length f.now) × (k < 4) }
-    ensures { result ≡ cvAt f.now d k }
+    requires { (FRAME_BYTES ≤ length f.now) × (k < 4) }
+    ensures { result ≡ cv_at f.now d k }
 {
     frame::word(f, frame::dual_spec(d).cv + 2 * k)
 }
 
 fn record(f: &[u8], d: usize, k: usize) -> [u8; 8]
-    requires { (FRAME-BYTES ≤ length f.now) × (k < 4) }
-    ensures { result ≡ recordAt f.now d k }
+    requires { (FRAME_BYTES ≤ length f.now) × (k < 4) }
+    ensures { result ≡ record_at f.now d k }
 {
     frame::bytes(f, frame::dual_spec(d).env + 8 * k)
 }
 
 impl Settings {
     fn read(f: &[u8], d: usize) -> Settings
-        requires { FRAME-BYTES ≤ length f.now }
-        ensures { result ≡ settingsOf f.now d }
+        requires { FRAME_BYTES ≤ length f.now }
+        ensures { result ≡ settings_of f.now d }
     {
         Settings {
             trig: switch(f, d, 0),
@@ -114,7 +114,7 @@ pub struct Trigged {
 
 // A rise resets the phases and draws two detunes.
 fn on_trig(rise: bool, ph1: f32, ph2: f32, det: [f32; 2], w: Wobble) -> Trigged
-    ensures { result ≡ trigOf rise ph1 ph2 det w }
+    ensures { result ≡ trig_of rise ph1 ph2 det w }
 {
     if rise {
         let a = w.detune(DETUNE_CENTS);
@@ -132,7 +132,7 @@ fn on_trig(rise: bool, ph1: f32, ph2: f32, det: [f32; 2], w: Wobble) -> Trigged
 
 // An oscillator's frequency: its tune word and the sweep, detuned and drifting.
 fn hz(tune: u16, pitch: f32, det: f32, ratio: f32) -> f32
-    ensures { result ≡ hzOf tune pitch det ratio }
+    ensures { result ≡ hz_of tune pitch det ratio }
 {
     let sweep = float::max(pitch, 0.0) * TUNE_PER_PITCH_LEVEL;
     (tune as f32 + sweep) * HZ_PER_TUNE * det * ratio
@@ -140,7 +140,7 @@ fn hz(tune: u16, pitch: f32, det: f32, ratio: f32) -> f32
 
 // 127 is full scale, -128 the floor (silent); logarithmic between.
 fn gain(level: f32) -> f32
-    ensures { result ≡ gainOf level }
+    ensures { result ≡ gain_of level }
 {
     if level <= -127.5 {
         return 0.0;
@@ -150,7 +150,7 @@ fn gain(level: f32) -> f32
 
 // `word as f32 / 32767.0`.
 fn word_level(w: u16) -> f32
-    ensures { result ≡ wordLevel w }
+    ensures { result ≡ word_level w }
 {
     w as f32 / 32767.0
 }
@@ -165,7 +165,7 @@ pub struct Sound {
 
 // With FM or ring modulation: the shared core.
 fn paired(i: Settings, ph1: f32, ph2: f32, f1: f32, f2: f32, amp2: f32) -> Sound
-    ensures { result ≡ pairedOf i ph1 ph2 f1 f2 amp2 }
+    ensures { result ≡ paired_of i ph1 ph2 f1 f2 amp2 }
 {
     let wave2 = i.wave2;
     let set = Osc2Set {
@@ -205,7 +205,7 @@ fn plain(i: Settings, ph1: f32, ph2: f32, f1: f32, f2: f32) -> Sound
 }
 
 fn played(i: Settings, ph1: f32, ph2: f32, f1: f32, f2: f32, amp2: f32) -> Sound
-    ensures { result ≡ soundOf i ph1 ph2 f1 f2 amp2 }
+    ensures { result ≡ sound_of i ph1 ph2 f1 f2 amp2 }
 {
     if i.fm | i.ring {
         return paired(i, ph1, ph2, f1, f2, amp2);
@@ -216,7 +216,7 @@ fn played(i: Settings, ph1: f32, ph2: f32, f1: f32, f2: f32, amp2: f32) -> Sound
 impl DualOsc {
     // Silent until the first trig: the amplitude envelope rests at its floor.
     pub fn new() -> DualOsc
-        ensures { result ≡ dualNew }
+        ensures { result ≡ dual_new }
     {
         let d = Drift::new();
         DualOsc {
@@ -236,8 +236,8 @@ impl DualOsc {
 
     // One sample of voice d: 0 BD, 1 SD, 2 RS.
     pub fn sample(self, f: &[u8], d: usize, w: Wobble) -> DualOut
-        requires { FRAME-BYTES ≤ length f.now }
-        ensures { result ≡ sampleOf f.now d self w }
+        requires { FRAME_BYTES ≤ length f.now }
+        ensures { result ≡ sample_of f.now d self w }
     {
         let i = Settings::read(f, d);
         let was = self.det;

@@ -8,8 +8,8 @@ use lib.Dec.{eqb}
 use borrow.Author.Tests.{eqb-true, eqb-false, eq-eqb, ne_eqb}
 
 -- a | b is not zero where a or b is not
-pub either-set : (a b : ℕ) → not (eqb (bit_or a b) 0) ≡ (not (eqb a 0) || not (eqb b 0))
-either-set a b = go (eqb a 0) (eqb b 0) refl refl
+pub either_set : (a b : ℕ) → not (eqb (bit_or a b) 0) ≡ (not (eqb a 0) || not (eqb b 0))
+either_set a b = go (eqb a 0) (eqb b 0) refl refl
   where
     s : bit_or a b + bit_and a b ≡ a + b
     s = or_add_and a b

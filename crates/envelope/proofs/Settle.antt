@@ -7,45 +7,45 @@ use lib.Ieee.{Float, of_bits, neg, fits, le, lt, eq}
 use Rattle.frame.specs.Frame.{Bytes}
 use Rattle.envelope.specs.declared.Env.{Env}
 use Rattle.envelope.specs.declared.SegEnv.{SegEnv}
-use Rattle.envelope.specs.Record.{tickLevel}
-use Rattle.envelope.specs.Moves.{Move, given, stood, ticked, settle, dualMove, dualOf, hitMove, hitOf, segMove, segOf}
+use Rattle.envelope.specs.Record.{tick_level}
+use Rattle.envelope.specs.Moves.{Move, given, stood, ticked, settle, dual_move, dual_of, hit_move, hit_of, seg_move, seg_of}
 use Rattle.envelope.specs.Levels.{Level, Between}
-use Rattle.envelope.proofs.Ranges.{record-in}
-use Rattle.envelope.proofs.Arrive.{tick-between}
+use Rattle.envelope.proofs.Ranges.{record_in}
+use Rattle.envelope.proofs.Arrive.{tick_between}
 
-pub stood-in : (m : Move) (x : Float) → Bytes m.bytes → Level x → Level (stood m x)
-stood-in m x h l = by m.restarted
+pub stood_in : (m : Move) (x : Float) → Bytes m.bytes → Level x → Level (stood m x)
+stood_in m x h l = by m.restarted
   where
     by : (b : Bool) → Level (cond b (given m).start x)
-    by true = (record-in m.bytes h).start.0
+    by true = (record_in m.bytes h).start.0
     by false = l
 
 module _ (m : Move) (x : Float) (h : Bytes m.bytes) (l : Level x) where
-  ticks-to : Between (stood m x) (tickLevel (stood m x) (given m).target (given m).step) (given m).target × Level (tickLevel (stood m x) (given m).target (given m).step)
-  ticks-to = let r = record-in m.bytes h in tick-between (given m).target (given m).step r.target.0 r.step (stood m x) (stood-in m x h l)
+  ticks_to : Between (stood m x) (tick_level (stood m x) (given m).target (given m).step) (given m).target × Level (tick_level (stood m x) (given m).target (given m).step)
+  ticks_to = let r = record_in m.bytes h in tick_between (given m).target (given m).step r.target.0 r.step (stood m x) (stood_in m x h l)
 
-  pub settle-in : Level (settle m x)
+  pub settle_in : Level (settle m x)
   unfolding settle
-  settle-in = by (ticked m) m.parked
+  settle_in = by (ticked m) m.parked
     where
-      by : (t p : Bool) → Level (cond t (tickLevel (stood m x) (given m).target (given m).step) (cond p Rattle.float.specs.Consts.kM128 (stood m x)))
-      by true p = ticks-to.1
+      by : (t p : Bool) → Level (cond t (tick_level (stood m x) (given m).target (given m).step) (cond p Rattle.float.specs.Consts.k_m128 (stood m x)))
+      by true p = ticks_to.1
       by false true = unfold of_bits neg fits le lt eq in record { f32 = tt; low = tt; high = tt }
-      by false false = stood-in m x h l
+      by false false = stood_in m x h l
 
-  pub settle-between : ticked m ≡ true → Between (stood m x) (settle m x) (given m).target
+  pub settle_between : ticked m ≡ true → Between (stood m x) (settle m x) (given m).target
   unfolding settle
-  settle-between e = rw e ticks-to.0
+  settle_between e = rw e ticks_to.0
 
 -- ---- so each kind of envelope keeps its level a level
-pub dual-level : (last r : List ℕ) (e : Env) → Bytes r → Level e.level → Level (dualOf last r e).level
-unfolding dualOf dualMove
-dual-level last r e h l = settle-in (dualMove last r) e.level h l
+pub dual_level : (last r : List ℕ) (e : Env) → Bytes r → Level e.level → Level (dual_of last r e).level
+unfolding dual_of dual_move
+dual_level last r e h l = settle_in (dual_move last r) e.level h l
 
-pub hit-level : (mode : ℕ) (r : List ℕ) (e : Env) → Bytes r → Level e.level → Level (hitOf mode r e).level
-unfolding hitOf hitMove
-hit-level mode r e h l = settle-in (hitMove mode r) e.level h l
+pub hit_level : (mode : ℕ) (r : List ℕ) (e : Env) → Bytes r → Level e.level → Level (hit_of mode r e).level
+unfolding hit_of hit_move
+hit_level mode r e h l = settle_in (hit_move mode r) e.level h l
 
-pub seg-level : (amp : Bool) (r : List ℕ) (e : SegEnv) → Bytes r → Level e.level → Level (segOf amp r e).level
-unfolding segOf segMove
-seg-level amp r e h l = settle-in (segMove amp r e) e.level h l
+pub seg_level : (amp : Bool) (r : List ℕ) (e : SegEnv) → Bytes r → Level e.level → Level (seg_of amp r e).level
+unfolding seg_of seg_move
+seg_level amp r e h l = settle_in (seg_move amp r e) e.level h l

@@ -9,12 +9,12 @@ use mathlib.Core.Bool.{Bool, true, false, not, cond}
 use lib.IntN.{pos}
 use lib.Dec.{T, nleb→lt}
 use lib.Ieee.{Float, fin, binary32, add, sub, mul, le}
-use Rattle.float.specs.Floats.{absOf, signumOf}
-use Rattle.float.proofs.Laws.{abs_is, signum-is}
+use Rattle.float.specs.Floats.{abs_of, signum_of}
+use Rattle.float.proofs.Laws.{abs_is, signum_is}
 use Rattle.line.proofs.Places.{Pos}
 use Rattle.line.proofs.Rounds.{Room}
-use Rattle.line.proofs.Line.{At, at-le, at-add, at-sub, at-times-one, at-times-minus-one, Rounded}
-use Rattle.envelope.specs.Record.{tickLevel}
+use Rattle.line.proofs.Line.{At, at_le, at_add, at_sub, at_times_one, at_times_minus_one, Rounded}
+use Rattle.envelope.specs.Record.{tick_level}
 
 -- from p toward q to p', not past q, by at least w / 2
 pub record Up (p q p' w : ℕ) : Type 0 where
@@ -41,11 +41,11 @@ module _ (o j W H : ℕ) (R : Room binary32 j) (B : 2 * 2 ^ (24 + j) ≤ o) (Q4 
 
     diff : Rounded binary32 o d (q + o - p)
     unfolding d
-    diff = at-sub binary32 o j R B target level q p (q + o - p) T' L (omega arith) (omega arith) (omega arith) (omega arith)
+    diff = at_sub binary32 o j R B target level q p (q + o - p) T' L (omega arith) (omega arith) (omega arith) (omega arith)
 
     up : o + g < q + o - p → Moved o (add binary32 level (mul binary32 step (fin false 1 (pos 0)))) p q (2 * g - H)
     up h =
-        let z = at-add binary32 o j R B level (mul binary32 step (fin false 1 (pos 0))) p (o + g) (p + g) L (at-times-one binary32 o step (o + g) S) (omega arith) (omega arith) (omega arith) in
+        let z = at_add binary32 o j R B level (mul binary32 step (fin false 1 (pos 0))) p (o + g) (p + g) L (at_times_one binary32 o step (o + g) S) (omega arith) (omega arith) (omega arith) in
         let a = z.rounds.under target q T' (omega arith) in
         let b = z.rounds.over level p L (omega arith) in
         let n = subst (λ (w : ℕ). (2 * z.to ≤ 2 * (p + g) + w) × (2 * (p + g) ≤ 2 * z.to + w)) (sym eH)
@@ -54,7 +54,7 @@ module _ (o j W H : ℕ) (R : Room binary32 j) (B : 2 * 2 ^ (24 + j) ≤ o) (Q4 
 
     down : q + o - p + g < o → Moved o (add binary32 level (mul binary32 step (fin true 1 (pos 0)))) p q (2 * g - H)
     down h =
-        let z = at-add binary32 o j R B level (mul binary32 step (fin true 1 (pos 0))) p (o - g) (p - g) L (at-times-minus-one binary32 o step (o + g) (o - g) (omega arith) S) (omega arith) (omega arith) (omega arith) in
+        let z = at_add binary32 o j R B level (mul binary32 step (fin true 1 (pos 0))) p (o - g) (p - g) L (at_times_minus_one binary32 o step (o + g) (o - g) (omega arith) S) (omega arith) (omega arith) (omega arith) in
         let a = z.rounds.over target q T' (omega arith) in
         let b = z.rounds.under level p L (omega arith) in
         let n = subst (λ (w : ℕ). (2 * z.to ≤ 2 * (p - g) + w) × (2 * (p - g) ≤ 2 * z.to + w)) (sym eH)
@@ -62,25 +62,25 @@ module _ (o j W H : ℕ) (R : Room binary32 j) (B : 2 * 2 ^ (24 + j) ≤ o) (Q4 
         record { to = z.to; at = z.at; way = inr (record { from = b; upto = a; by = omega arith }) }
 
     -- the size of the difference
-    sized : At binary32 o (absOf d) (o + diff.at.q)
+    sized : At binary32 o (abs_of d) (o + diff.at.q)
     sized = record { s = false; q = diff.at.q; is = abs_is binary32 d diff.at.s diff.at.q diff.at.is; rep = diff.at.rep; place = refl }
 
-    far : le (absOf d) step ≡ false → g < diff.at.q
-    far k = let a : o + g < o + diff.at.q = nleb→lt (o + diff.at.q) (o + g) (subst (λ (b : Bool). T (not b)) (sym (sym (at-le binary32 o (absOf d) step (o + diff.at.q) (o + g) sized S) ∙ k)) tt) in omega arith
+    far : le (abs_of d) step ≡ false → g < diff.at.q
+    far k = let a : o + g < o + diff.at.q = nleb→lt (o + diff.at.q) (o + g) (subst (λ (b : Bool). T (not b)) (sym (sym (at_le binary32 o (abs_of d) step (o + diff.at.q) (o + g) sized S) ∙ k)) tt) in omega arith
 
     moved : (s : Bool) → Pos o s diff.at.q diff.to → g < diff.at.q → Moved o (add binary32 level (mul binary32 step (fin s 1 (pos 0)))) p q (2 * g - H)
     moved false e k = up (lt_of_not-le (λ (n : q + o - p ≤ o + g). not-le_of_lt k (let u = diff.rounds.under step (o + g) S n in omega arith)))
     moved true e k =
         down (lt_of_not-le (λ (n : o ≤ q + o - p + g).
-        not-le_of_lt k (let u = diff.rounds.over (mul binary32 step (fin true 1 (pos 0))) (o - g) (at-times-minus-one binary32 o step (o + g) (o - g) (omega arith) S) (omega arith) in omega arith)))
+        not-le_of_lt k (let u = diff.rounds.over (mul binary32 step (fin true 1 (pos 0))) (o - g) (at_times_minus_one binary32 o step (o + g) (o - g) (omega arith) S) (omega arith) in omega arith)))
 
-    pub tick-moves : (tickLevel level target step ≡ target) ⊎ Moved o (tickLevel level target step) p q (2 * g - H)
-    unfolding tickLevel d
-    tick-moves = go (le (absOf d) step) refl
+    pub tick_moves : (tick_level level target step ≡ target) ⊎ Moved o (tick_level level target step) p q (2 * g - H)
+    unfolding tick_level d
+    tick_moves = go (le (abs_of d) step) refl
       where
-        go : (b : Bool) → le (absOf d) step ≡ b
-            → (cond b target (add binary32 level (mul binary32 step (signumOf d))) ≡ target) ⊎ Moved o (cond b target (add binary32 level (mul binary32 step (signumOf d)))) p q (2 * g - H)
+        go : (b : Bool) → le (abs_of d) step ≡ b
+            → (cond b target (add binary32 level (mul binary32 step (signum_of d))) ≡ target) ⊎ Moved o (cond b target (add binary32 level (mul binary32 step (signum_of d)))) p q (2 * g - H)
         go true k = inl refl
         go false k =
-            inr (subst (λ (x : Float). Moved o (add binary32 level (mul binary32 step x)) p q (2 * g - H)) (sym (signum-is binary32 d diff.at.s diff.at.q diff.at.is))
+            inr (subst (λ (x : Float). Moved o (add binary32 level (mul binary32 step x)) p q (2 * g - H)) (sym (signum_is binary32 d diff.at.s diff.at.q diff.at.is))
             (moved diff.at.s diff.at.place (far k)))

@@ -2,14 +2,14 @@
 use Rattle.std.specs.Prelude.{ℕ, zero, suc, ◌+◌, ◌-◌, ◌*◌, ◌/◌, ◌^◌, true, false, ◌⊎◌, pos, negsuc, T, Float}
 use Rattle.std.specs.Float.{nan, inf, fin, binary32}
 use Rattle.std.specs.Float.Ieee.{up, down, le, fits, in_signed}
-use Rattle.float.specs.Consts.{k127, kM128}
+use Rattle.float.specs.Consts.{k127, k_m128}
 use Rattle.envelope.specs.declared.Record.{Record}
-use Rattle.envelope.specs.Record.{tickLevel}
+use Rattle.envelope.specs.Record.{tick_level}
 
 -- an f32 from -128 to 127
 pub record Level (x : Float) : Type 0 where
   pub f32 : T (fits binary32 x)
-  pub low : T (le kM128 x)
+  pub low : T (le k_m128 x)
   pub high : T (le x k127)
 
 -- a whole number that an i8 holds
@@ -44,7 +44,7 @@ distance x y = (place x - place y) + (place y - place x)
 -- n ticks
 unfoldable pub ticks : ℕ → Float → Float → Float → Float
 ticks zero level target step = level
-ticks (suc n) level target step = tickLevel (ticks n level target step) target step
+ticks (suc n) level target step = tick_level (ticks n level target step) target step
 
 -- the levels and the step of a record lie in their ranges
 pub record Ranges (r : Record) : Type 0 where

@@ -1,8 +1,8 @@
 -- An envelope of any kind: what it keeps, the move that a record makes of it, and what it keeps after that. Definitions only.
 use Rattle.std.specs.Prelude.{ℕ, zero, suc, true, false, List, T, Float}
 use Rattle.envelope.specs.declared.SegEnv.{SegEnv}
-use Rattle.envelope.specs.Record.{mode_of, recordOf}
-use Rattle.envelope.specs.Moves.{Move, ramps, dualMove, dualOf, hitMove, hitOf, segMove, segOf}
+use Rattle.envelope.specs.Record.{mode_of, record_of}
+use Rattle.envelope.specs.Moves.{Move, ramps, dual_move, dual_of, hit_move, hit_of, seg_move, seg_of}
 
 -- the four kinds, each with what it keeps: a dual voice's envelope its last record, the hat's and the cymbal's their last mode, a chain's its SegEnv
 pub data State : Type 0 where
@@ -11,35 +11,35 @@ pub data State : Type 0 where
   chainAmp chainFilter : SegEnv → State
 
 -- where its level stands
-abbrev pub levelIn : State → Float
-levelIn (dual last x) = x
-levelIn (hit mode x) = x
-levelIn (chainAmp e) = e.level
-levelIn (chainFilter e) = e.level
+abbrev pub level_within : State → Float
+level_within (dual last x) = x
+level_within (hit mode x) = x
+level_within (chainAmp e) = e.level
+level_within (chainFilter e) = e.level
 
 -- the move that a record makes of it
-abbrev pub moveIn : State → List ℕ → Move
-moveIn (dual last x) r = dualMove last r
-moveIn (hit mode x) r = hitMove mode r
-moveIn (chainAmp e) r = segMove true r e
-moveIn (chainFilter e) r = segMove false r e
+abbrev pub move_in : State → List ℕ → Move
+move_in (dual last x) r = dual_move last r
+move_in (hit mode x) r = hit_move mode r
+move_in (chainAmp e) r = seg_move true r e
+move_in (chainFilter e) r = seg_move false r e
 
 -- what it keeps after a record
-abbrev pub afterIn : State → List ℕ → State
-afterIn (dual last x) r = dual r (dualOf last r (record { level = x })).level
-afterIn (hit mode x) r = hit (mode_of r) (hitOf mode r (record { level = x })).level
-afterIn (chainAmp e) r = chainAmp (segOf true r e)
-afterIn (chainFilter e) r = chainFilter (segOf false r e)
+abbrev pub after_in : State → List ℕ → State
+after_in (dual last x) r = dual r (dual_of last r (record { level = x })).level
+after_in (hit mode x) r = hit (mode_of r) (hit_of mode r (record { level = x })).level
+after_in (chainAmp e) r = chainAmp (seg_of true r e)
+after_in (chainFilter e) r = chainFilter (seg_of false r e)
 
 -- and after the same record n times
-unfoldable pub afterTimes : ℕ → State → List ℕ → State
-afterTimes zero s r = s
-afterTimes (suc n) s r = afterIn (afterTimes n s r) r
+unfoldable pub after_times : ℕ → State → List ℕ → State
+after_times zero s r = s
+after_times (suc n) s r = after_in (after_times n s r) r
 
 -- a record that neither holds nor parks an envelope of its kind, by its bytes alone: a dual voice's always, the hat's and the cymbal's with a first word
 -- other than zero, a chain's with mode 9, B or F
 abbrev pub NeverStops : State → List ℕ → Type 0
 NeverStops (dual last x) r = Unit
-NeverStops (hit mode x) r = T (recordOf r).start_cmd
+NeverStops (hit mode x) r = T (record_of r).start_cmd
 NeverStops (chainAmp e) r = T (ramps (mode_of r))
 NeverStops (chainFilter e) r = T (ramps (mode_of r))

@@ -1,7 +1,7 @@
 // Envelope records, and the envelopes that follow them: Env (dual voices, hat, cymbal) and SegEnv (a chain's amp and filter).
 ghost use Rattle.std.specs.Prelude.{◌≡◌, Bool, true, false, not, ◌&&◌, ◌||◌, ◌+◌, ◌*◌, ◌/◌, ◌≤◌, ◌<◌};
-ghost use Rattle.envelope.specs.Record.{levelOf, expOf, mantOf, mode_of, rateOf, step_of, recordOf, tickOf};
-ghost use Rattle.envelope.specs.Moves.{settledBy, alike, dualOf, hitOf, key_of, sameKey, holdOf, movedBy, segOf};
+ghost use Rattle.envelope.specs.Record.{level_of, exp_of, mant_of, mode_of, rate_of, step_of, record_of, tick_of};
+ghost use Rattle.envelope.specs.Moves.{settled_by, alike, dual_of, hit_of, key_of, same_key, hold_of, moved_by, seg_of};
 
 // One 8-byte record. Its first word is a command: not zero starts the segment.
 #[repr(C)]
@@ -16,7 +16,7 @@ pub struct Record {
 
 // `b as i8 as f32`.
 fn level(b: u8) -> f32
-    ensures { result ≡ levelOf b }
+    ensures { result ≡ level_of b }
 {
     if b < 128 {
         let n: i8 = b as i8;
@@ -35,21 +35,21 @@ fn wide(b: u8) -> u32
 
 // The exponent: the low nibble of byte 5.
 fn exp(r: [u8; 8]) -> u32
-    ensures { (result ≡ expOf r) × (result < 16) }
+    ensures { (result ≡ exp_of r) × (result < 16) }
 {
     wide(r[5] & 15)
 }
 
 // The mantissa: bytes 6 and 7.
 fn mant(r: [u8; 8]) -> u32
-    ensures { (result ≡ mantOf r) × (result < 65536) }
+    ensures { (result ≡ mant_of r) × (result < 65536) }
 {
     frame::be16(r[6], r[7]) as u32
 }
 
 impl Record {
     pub fn parse(r: [u8; 8]) -> Record
-        ensures { result ≡ recordOf r }
+        ensures { result ≡ record_of r }
     {
         let e = exp(r);
         let m = mant(r);
@@ -72,7 +72,7 @@ pub struct Env {
 
 impl Env {
     pub fn tick(self, r: Record) -> Env
-        ensures { result ≡ tickOf self r }
+        ensures { result ≡ tick_of self r }
     {
         let d = r.target - self.level;
         if float::abs(d) <= r.step {
@@ -86,7 +86,7 @@ impl Env {
 
     // A dual voice's: a record other than the last one, with the command, starts at its start level.
     pub fn dual(self, last: [u8; 8], r: [u8; 8]) -> Env
-        ensures { result ≡ dualOf last r self }
+        ensures { result ≡ dual_of last r self }
     {
         let rec = Record::parse(r);
         let restarted = !same(r, last) & rec.start_cmd;
@@ -97,7 +97,7 @@ impl Env {
 
     // The hat's and the cymbal's: mode F after another mode starts it, and a zero first word parks it.
     pub fn hit(self, mode: u8, r: [u8; 8]) -> Env
-        ensures { result ≡ hitOf mode r self }
+        ensures { result ≡ hit_of mode r self }
     {
         let rec = Record::parse(r);
         let restarted = (mode_of(r) == 15) & !(mode == 15);
@@ -109,7 +109,7 @@ impl Env {
 
 // The level after a move.
 fn settled(rec: Record, restarted: bool, held: bool, parked: bool, level: f32) -> f32
-    ensures { result ≡ settledBy rec restarted held parked level }
+    ensures { result ≡ settled_by rec restarted held parked level }
 {
     if parked {
         return -128.0;
@@ -163,7 +163,7 @@ impl Key {
     }
 
     fn same(self, other: Key) -> bool
-        ensures { result ≡ sameKey self other }
+        ensures { result ≡ same_key self other }
     {
         (self.start == other.start) & (self.target == other.target) & (self.rate == other.rate)
     }
@@ -171,7 +171,7 @@ impl Key {
 
 // Whether the level is held, by the mode, the rate, the difference to the target, and what was.
 fn hold_of(mode: u8, rate: u32, d: f32, was: bool) -> bool
-    ensures { result ≡ holdOf mode rate d was }
+    ensures { result ≡ hold_of mode rate d was }
 {
     match mode {
         3 => {
@@ -202,7 +202,7 @@ pub struct SegEnv {
 impl SegEnv {
     // After a record with this key and mode, which restarts it or not; `cmd` is what it keeps of the start command.
     fn moved(self, rec: Record, key: Key, mode: u8, restarted: bool, cmd: bool) -> SegEnv
-        ensures { result ≡ movedBy rec key mode restarted cmd self }
+        ensures { result ≡ moved_by rec key mode restarted cmd self }
     {
         let stood = float::choose(restarted, rec.start, self.level);
         let hold = hold_of(mode, key.rate, rec.target - stood, self.hold);
@@ -216,7 +216,7 @@ impl SegEnv {
 
     // The amp's, whose record begins with a start command: the command after a record without it starts the segment.
     pub fn amp(self, r: [u8; 8]) -> SegEnv
-        ensures { result ≡ segOf true r self }
+        ensures { result ≡ seg_of true r self }
     {
         let rec = Record::parse(r);
         let key = Key::of(r);
@@ -226,7 +226,7 @@ impl SegEnv {
 
     // The filter's, whose record begins with a depth: a changed key with mode 9 or F starts the segment.
     pub fn filter(self, r: [u8; 8]) -> SegEnv
-        ensures { result ≡ segOf false r self }
+        ensures { result ≡ seg_of false r self }
     {
         let rec = Record::parse(r);
         let key = Key::of(r);

@@ -23,9 +23,9 @@ pub zero_field : (s : Bool) (t : ℕ) → HasValue (of_fields binary32 s 0 t) s 
 unfolding of_fields
 zero_field s t = odd_sign 24 s t 0 149
 
-pub some-field : (s : Bool) (x t : ℕ) → x < 254 → HasValue (of_fields binary32 s (suc x) t) s ((8388608 + t) * 2 ^ x) (2 ^ 149)
+pub some_field : (s : Bool) (x t : ℕ) → x < 254 → HasValue (of_fields binary32 s (suc x) t) s ((8388608 + t) * 2 ^ x) (2 ^ 149)
 unfolding of_fields
-some-field s x t h =
+some_field s x t h =
     subst (λ (v : Float). HasValue v s ((8388608 + t) * 2 ^ x) (2 ^ 149))
     (sym (cond_no (eqb (suc x) 255) (cond (eqb t 0) (inf s) nan) (odd 24 s (8388608 + t) x 149) (not_T (eqb (suc x) 255) (λ u. ne (eqb→eq (suc x) 255 u)))))
     (odd_sign 24 s (8388608 + t) x 149)
@@ -42,11 +42,11 @@ pattern x q h lo hi =
     let e₂ : b % 2147483648 / 8388608 ≡ suc x = omega arith in
     let e₃ : b % 8388608 ≡ q - 8388608 = omega arith in
     let e₄ : 8388608 + (q - 8388608) ≡ q = omega arith in
-    rw (e₁, e₂, e₃, e₄) (rw e₄ at (some-field false x (q - 8388608) h))
+    rw (e₁, e₂, e₃, e₄) (rw e₄ at (some_field false x (q - 8388608) h))
 
 -- a carry into the exponent, at q = 2 ^ 24, does no harm
-pub pattern-carry : (x q : ℕ) → x < 253 → 8388608 ≤ q → q ≤ 16777216 → HasValue (of_bits binary32 (x * 8388608 + q)) false (q * 2 ^ x) (2 ^ 149)
-pattern-carry x q h lo hi = go (eq-or-lt_of_le hi)
+pub pattern_carry : (x q : ℕ) → x < 253 → 8388608 ≤ q → q ≤ 16777216 → HasValue (of_bits binary32 (x * 8388608 + q)) false (q * 2 ^ x) (2 ^ 149)
+pattern_carry x q h lo hi = go (eq-or-lt_of_le hi)
   where
     bits : x * 8388608 + 16777216 ≡ suc x * 8388608 + 8388608
     bits = omega arith
@@ -59,22 +59,22 @@ pattern-carry x q h lo hi = go (eq-or-lt_of_le hi)
     go (inr l) = pattern x q (omega arith) lo l
 
 -- no pattern of a finite or infinite value of plus sign is a NaN's
-pub bits-no-nan : (n : ℕ) → n < 2139095040 → T (not (nan_bits binary32 n))
-bits-no-nan n h = rw (nan_bits_above binary32 n) (le→nltb 2139095040 (n % 2147483648) (omega arith))
+pub bits_no_nan : (n : ℕ) → n < 2139095040 → T (not (nan_bits binary32 n))
+bits_no_nan n h = rw (nan_bits_above binary32 n) (le→nltb 2139095040 (n % 2147483648) (omega arith))
 
-scale-eq : (n d w l num den : ℕ) → 0 < l → num * l ≡ w * den → n * l ≡ w * d → n * den ≡ num * d
-scale-eq n d w l num den p h v = eq_of_mul-eq-mul_right l p (n * den) (num * d) (simp ac (simp ac at (ap (λ (z : ℕ). z * den) v ∙ turn w d den ∙ ap (λ (z : ℕ). z * d) (sym h))))
+scale_eq : (n d w l num den : ℕ) → 0 < l → num * l ≡ w * den → n * l ≡ w * d → n * den ≡ num * d
+scale_eq n d w l num den p h v = eq_of_mul-eq-mul_right l p (n * den) (num * d) (simp ac (simp ac at (ap (λ (z : ℕ). z * den) v ∙ turn w d den ∙ ap (λ (z : ℕ). z * d) (sym h))))
   where
     turn : (w d den : ℕ) → w * d * den ≡ w * den * d
     turn w d den = simp ac
 
 -- the same value as another fraction
-pub value-other : (x : Float) (s : Bool) (w l num den : ℕ) → 0 < l → num * l ≡ w * den → HasValue x s w l → HasValue x s num den
-value-other nan s w l num den p h v = v
-value-other (inf t) s w l num den p h v = v
-value-other (fin t m e) s w l num den p h v = (v.0, scale-eq (m * up e) (down e) w l num den p h v.1)
+pub value_other : (x : Float) (s : Bool) (w l num den : ℕ) → 0 < l → num * l ≡ w * den → HasValue x s w l → HasValue x s num den
+value_other nan s w l num den p h v = v
+value_other (inf t) s w l num den p h v = v
+value_other (fin t m e) s w l num den p h v = (v.0, scale_eq (m * up e) (down e) w l num den p h v.1)
 
 -- a choice of two floats of the format is one
-pub cond-fits : (b : Bool) (x y : Float) → T (fits binary32 x) → T (fits binary32 y) → T (fits binary32 (cond b x y))
-cond-fits true x y h k = h
-cond-fits false x y h k = k
+pub cond_fits : (b : Bool) (x y : Float) → T (fits binary32 x) → T (fits binary32 y) → T (fits binary32 (cond b x y))
+cond_fits true x y h k = h
+cond_fits false x y h k = k

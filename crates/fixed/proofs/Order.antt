@@ -20,9 +20,9 @@ pub off : {b : Bool} → b ≡ false → T (not b)
 off e = subst (λ (z : Bool). T (not z)) (sym e) tt
 
 -- where two do not hold together and the first does
-pub other-off : (a b : Bool) → T (not (a && b)) → T a → T (not b)
-other-off true b h k = h
-other-off false b h k = absurd k
+pub other_off : (a b : Bool) → T (not (a && b)) → T a → T (not b)
+other_off true b h k = h
+other_off false b h k = absurd k
 
 -- ± x ≤ ± y; true is the minus sign
 abbrev pub Under : Bool → ℕ → Bool → ℕ → Type 0
@@ -50,8 +50,8 @@ or_r : (a b : Bool) → T b → T (a || b)
 or_r true b t = tt
 or_r false b t = t
 
-le-under : (s : Bool) (x : ℕ) (t : Bool) (y : ℕ) → T (below s x t y || level s x t y) → Under s x t y
-le-under s x t y h = go (or_cases (below s x t y) (level s x t y) h)
+le_under : (s : Bool) (x : ℕ) (t : Bool) (y : ℕ) → T (below s x t y || level s x t y) → Under s x t y
+le_under s x t y h = go (or_cases (below s x t y) (level s x t y) h)
   where
     same : T (level s x t y) → x ≡ y
     same l = eqb→eq x y (and_l (eqb x y) (beq s t || eqb x 0) l)
@@ -68,29 +68,29 @@ le-under s x t y h = go (or_cases (below s x t y) (level s x t y) h)
         pick false true e z (inr l) = let o = eqb→eq x 0 (z l) in (o, sym (e l) ∙ o)
         pick true false e z k = tt
 
-under-le : (s : Bool) (x : ℕ) (t : Bool) (y : ℕ) → Under s x t y → T (below s x t y || level s x t y)
-under-le false x false y h = go (eq-or-lt_of_le h)
+under_le : (s : Bool) (x : ℕ) (t : Bool) (y : ℕ) → Under s x t y → T (below s x t y || level s x t y)
+under_le false x false y h = go (eq-or-lt_of_le h)
   where
     go : (x ≡ y) ⊎ (x < y) → T (ltb x y || (eqb x y && true))
     go (inl e) = or_r (ltb x y) (eqb x y && true) (subst (λ (z : ℕ). T (eqb x z && true)) e (and_i (eqb x x) true (eqb_refl x) tt))
     go (inr l) = or_l (ltb x y) (eqb x y && true) (lt→ltb x y l)
-under-le true x true y h = go (eq-or-lt_of_le h)
+under_le true x true y h = go (eq-or-lt_of_le h)
   where
     go : (y ≡ x) ⊎ (y < x) → T (ltb y x || (eqb x y && true))
     go (inl e) = or_r (ltb y x) (eqb x y && true) (subst (λ (z : ℕ). T (eqb x z && true)) (sym e) (and_i (eqb x x) true (eqb_refl x) tt))
     go (inr l) = or_l (ltb y x) (eqb x y && true) (lt→ltb y x l)
-under-le false x true y h = rw (h.0, h.1) tt
-under-le true zero false zero h = tt
-under-le true zero false (suc y) h = or_l (ltb 0 (0 + suc y)) (eqb 0 (suc y) && true) (lt→ltb 0 (0 + suc y) (omega arith))
-under-le true (suc x) false y h = or_l (ltb 0 (suc x + y)) (eqb (suc x) y && eqb (suc x) 0) (lt→ltb 0 (suc x + y) (omega arith))
+under_le false x true y h = rw (h.0, h.1) tt
+under_le true zero false zero h = tt
+under_le true zero false (suc y) h = or_l (ltb 0 (0 + suc y)) (eqb 0 (suc y) && true) (lt→ltb 0 (0 + suc y) (omega arith))
+under_le true (suc x) false y h = or_l (ltb 0 (suc x + y)) (eqb (suc x) y && eqb (suc x) 0) (lt→ltb 0 (suc x + y) (omega arith))
 
-pub le-says : (s : Bool) (m : ℕ) (e : ℤ) (t : Bool) (n : ℕ) (d : ℤ) → T (le (fin s m e) (fin t n d)) → Under s (m * up e * down d) t (n * up d * down e)
+pub le_says : (s : Bool) (m : ℕ) (e : ℤ) (t : Bool) (n : ℕ) (d : ℤ) → T (le (fin s m e) (fin t n d)) → Under s (m * up e * down d) t (n * up d * down e)
 unfolding le lt eq
-le-says s m e t n d h = le-under s (m * up e * down d) t (n * up d * down e) h
+le_says s m e t n d h = le_under s (m * up e * down d) t (n * up d * down e) h
 
-pub le-make : (s : Bool) (m : ℕ) (e : ℤ) (t : Bool) (n : ℕ) (d : ℤ) → Under s (m * up e * down d) t (n * up d * down e) → T (le (fin s m e) (fin t n d))
+pub le_make : (s : Bool) (m : ℕ) (e : ℤ) (t : Bool) (n : ℕ) (d : ℤ) → Under s (m * up e * down d) t (n * up d * down e) → T (le (fin s m e) (fin t n d))
 unfolding le lt eq
-le-make s m e t n d h = under-le s (m * up e * down d) t (n * up d * down e) h
+le_make s m e t n d h = under_le s (m * up e * down d) t (n * up d * down e) h
 
 less : (s : Bool) (x : ℕ) (t : Bool) (y : ℕ) → T (below s x t y) → Less s x t y
 less false x false y h = ltb→lt x y h
@@ -98,42 +98,42 @@ less true x true y h = ltb→lt y x h
 less false x true y h = h
 less true x false y h = ltb→lt 0 (x + y) h
 
-pub lt-says : (s : Bool) (m : ℕ) (e : ℤ) (t : Bool) (n : ℕ) (d : ℤ) → T (lt (fin s m e) (fin t n d)) → Less s (m * up e * down d) t (n * up d * down e)
+pub lt_says : (s : Bool) (m : ℕ) (e : ℤ) (t : Bool) (n : ℕ) (d : ℤ) → T (lt (fin s m e) (fin t n d)) → Less s (m * up e * down d) t (n * up d * down e)
 unfolding lt
-lt-says s m e t n d h = less s (m * up e * down d) t (n * up d * down e) h
+lt_says s m e t n d h = less s (m * up e * down d) t (n * up d * down e) h
 
 -- of two numbers that do not stand in the one order
-not-below : (s : Bool) (x : ℕ) (t : Bool) (y : ℕ) → T (not (below s x t y)) → Under t y s x
-not-below false x false y h = nltb→le x y h
-not-below true x true y h = nltb→le y x h
-not-below false x true y h = tt
-not-below true x false y h = let z = nltb→le 0 (x + y) h in (omega arith, omega arith)
+not_below : (s : Bool) (x : ℕ) (t : Bool) (y : ℕ) → T (not (below s x t y)) → Under t y s x
+not_below false x false y h = nltb→le x y h
+not_below true x true y h = nltb→le y x h
+not_below false x true y h = tt
+not_below true x false y h = let z = nltb→le 0 (x + y) h in (omega arith, omega arith)
 
-pub not-lt : (x y : Float) → T (not (is_nan x)) → T (not (is_nan y)) → T (not (lt x y)) → T (le y x)
+pub not_lt : (x y : Float) → T (not (is_nan x)) → T (not (is_nan y)) → T (not (lt x y)) → T (le y x)
 unfolding is_nan le lt eq
-not-lt nan y p q h = absurd p
-not-lt (inf s) nan p q h = absurd q
-not-lt (fin s m e) nan p q h = absurd q
-not-lt (inf true) (inf true) p q h = tt
-not-lt (inf true) (inf false) p q h = absurd h
-not-lt (inf false) (inf true) p q h = tt
-not-lt (inf false) (inf false) p q h = tt
-not-lt (inf true) (fin t n d) p q h = absurd h
-not-lt (inf false) (fin t n d) p q h = tt
-not-lt (fin s m e) (inf true) p q h = tt
-not-lt (fin s m e) (inf false) p q h = absurd h
-not-lt (fin s m e) (fin t n d) p q h = under-le t (n * up d * down e) s (m * up e * down d) (not-below s (m * up e * down d) t (n * up d * down e) h)
+not_lt nan y p q h = absurd p
+not_lt (inf s) nan p q h = absurd q
+not_lt (fin s m e) nan p q h = absurd q
+not_lt (inf true) (inf true) p q h = tt
+not_lt (inf true) (inf false) p q h = absurd h
+not_lt (inf false) (inf true) p q h = tt
+not_lt (inf false) (inf false) p q h = tt
+not_lt (inf true) (fin t n d) p q h = absurd h
+not_lt (inf false) (fin t n d) p q h = tt
+not_lt (fin s m e) (inf true) p q h = tt
+not_lt (fin s m e) (inf false) p q h = absurd h
+not_lt (fin s m e) (fin t n d) p q h = under_le t (n * up d * down e) s (m * up e * down d) (not_below s (m * up e * down d) t (n * up d * down e) h)
 
-pub not-le : (x y : Float) → T (not (is_nan x)) → T (not (is_nan y)) → T (not (le x y)) → T (lt y x)
-not-le x y p q h = go (lt y x) (not-lt y x q p)
+pub not_le : (x y : Float) → T (not (is_nan x)) → T (not (is_nan y)) → T (not (le x y)) → T (lt y x)
+not_le x y p q h = go (lt y x) (not_lt y x q p)
   where
     go : (b : Bool) → (T (not b) → T (le x y)) → T b
     go true f = tt
     go false f = absurd (T_not (le x y) h (f tt))
 
-pub lt-le : (x y : Float) → T (lt x y) → T (le x y)
+pub lt_le : (x y : Float) → T (lt x y) → T (le x y)
 unfolding le
-lt-le x y h = or_l (lt x y) (eq x y) h
+lt_le x y h = or_l (lt x y) (eq x y) h
 
 -- the two orders exclude each other
 never : (s : Bool) (x : ℕ) (t : Bool) (y : ℕ) → Under s x t y → Less t y s x → ⊥
@@ -155,7 +155,7 @@ apart (inf true) (fin t n d) h k = k
 apart (inf false) (fin t n d) h k = h
 apart (fin s m e) (inf true) h k = h
 apart (fin s m e) (inf false) h k = k
-apart (fin s m e) (fin t n d) h k = never s (m * up e * down d) t (n * up d * down e) (le-says s m e t n d h) (lt-says t n d s m e k)
+apart (fin s m e) (fin t n d) h k = never s (m * up e * down d) t (n * up d * down e) (le_says s m e t n d h) (lt_says t n d s m e k)
 
 pub le_not_lt : (x y : Float) → T (le x y) → T (not (lt y x))
 le_not_lt x y h = not_T (lt y x) (λ k. apart x y h k)
@@ -164,11 +164,11 @@ pub lt_not_le : (x y : Float) → T (lt x y) → T (not (le y x))
 lt_not_le x y h = not_T (le y x) (λ k. apart y x k h)
 
 -- what `t != t` tells
-pub a-number : (t : Float) → ne t t ≡ false → T (not (is_nan t))
+pub a_number : (t : Float) → ne t t ≡ false → T (not (is_nan t))
 unfolding is_nan
-a-number nan e = true≢false (sym nan_differs ∙ e)
-a-number (inf s) e = tt
-a-number (fin s m e) k = tt
+a_number nan e = true≢false (sym nan_differs ∙ e)
+a_number (inf s) e = tt
+a_number (fin s m e) k = tt
 
 pub no_number : (t : Float) → ne t t ≡ true → t ≡ nan
 no_number t e = differs_from_itself t (on e)
@@ -182,11 +182,11 @@ same_number (fin true m e) h = rw (is_true (eqb (m * up e * down e) (m * up e * 
 same_number (fin false m e) h = rw (is_true (eqb (m * up e * down e) (m * up e * down e)) (eqb_refl (m * up e * down e)))
 
 -- what is compared is a number
-pub lt-left : (x y : Float) → T (lt x y) → T (not (is_nan x))
+pub lt_left : (x y : Float) → T (lt x y) → T (not (is_nan x))
 unfolding is_nan lt
-lt-left nan y h = h
-lt-left (inf s) y h = tt
-lt-left (fin s m e) y h = tt
+lt_left nan y h = h
+lt_left (inf s) y h = tt
+lt_left (fin s m e) y h = tt
 
 pub le_left : (x y : Float) → T (le x y) → T (not (is_nan x))
 unfolding is_nan le lt eq
@@ -205,12 +205,12 @@ le_right (fin s m e) (inf t) h = tt
 le_right (fin s m e) (fin t n d) h = tt
 
 -- what is below 0 is above 0 with the sign turned
-pub neg-below : (x : Float) → T (lt x (fin false 0 (pos 0))) → T (le (fin false 0 (pos 0)) (neg x))
-neg-below nan h = unfold lt in absurd h
-neg-below (inf true) h = unfold neg lt le eq in tt
-neg-below (inf false) h = unfold lt in absurd h
-neg-below (fin true m e) h = unfold neg in le-make false 0 (pos 0) false m e (omega arith)
-neg-below (fin false m e) h = absurd (none (lt-says false m e false 0 (pos 0) h))
+pub neg_below : (x : Float) → T (lt x (fin false 0 (pos 0))) → T (le (fin false 0 (pos 0)) (neg x))
+neg_below nan h = unfold lt in absurd h
+neg_below (inf true) h = unfold neg lt le eq in tt
+neg_below (inf false) h = unfold lt in absurd h
+neg_below (fin true m e) h = unfold neg in le_make false 0 (pos 0) false m e (omega arith)
+neg_below (fin false m e) h = absurd (none (lt_says false m e false 0 (pos 0) h))
   where
     none : m * up e * 1 < 0 * 1 * down e → ⊥
     none g = omega arith

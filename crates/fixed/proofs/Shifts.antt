@@ -8,15 +8,15 @@ use lib.Dec.{T, ltb, lit<, lt→ltb, ltb→lt, nltb→le}
 use lib.Pow.{pow_pos, pow-add, pow_mono, shl_exact, shl_lt}
 use lib.Ieee.Bits.{is_true}
 use lib.Ieee.Nearest.{div_same}
-use Rattle.series.proofs.Algebra.{ac, sub-mul}
-use Rattle.fixed.specs.Fixed.{shifted, placeAt, size_at}
+use Rattle.series.proofs.Algebra.{ac, sub_mul}
+use Rattle.fixed.specs.Fixed.{shifted, place_at, size_at}
 
 -- a shift loses nothing
 pub whole_is : (x d : ℕ) → x ≤ 133 → d < 16777216 → d * 2 ^ (x - 94) % 18446744073709551616 ≡ d * 2 ^ (x - 94)
 whole_is x d h k = shl_exact {a = d} 24 (x - 94) 64 k (omega arith)
 
-pub whole-small : (x d : ℕ) → x ≤ 133 → d < 16777216 → d * 2 ^ (x - 94) < 9223372036854775808
-whole-small x d h k = lt_of_lt_of_le (shl_lt 24 (x - 94) k) (pow_mono {j = 63} (omega arith))
+pub whole_small : (x d : ℕ) → x ≤ 133 → d < 16777216 → d * 2 ^ (x - 94) < 9223372036854775808
+whole_small x d h k = lt_of_lt_of_le (shl_lt 24 (x - 94) k) (pow_mono {j = 63} (omega arith))
 
 -- the two powers, for a number with a fraction and for a whole one
 lower : (x : ℕ) → 94 ≤ x → x < 118 → 2 ^ (x - 94) * 2 ^ (118 - x) ≡ 16777216
@@ -31,27 +31,27 @@ upper x h = ap (λ (i : ℕ). 2 ^ i) sum ∙ pow-add 2 (x - 118) 24
     sum : x - 94 ≡ x - 118 + 24
     sum = omega arith
 
-size-mid : (d L K : ℕ) → 0 < K → L * K ≡ 16777216 → d * L / 16777216 ≡ d / K
-size-mid d L K p e = div_same (d * L) 16777216 d K (lit< tt) p (mul_assoc d L K ∙ ap (λ (z : ℕ). d * z) e)
+size_mid : (d L K : ℕ) → 0 < K → L * K ≡ 16777216 → d * L / 16777216 ≡ d / K
+size_mid d L K p e = div_same (d * L) 16777216 d K (lit< tt) p (mul_assoc d L K ∙ ap (λ (z : ℕ). d * z) e)
 
-size-far : (d L Y : ℕ) → L ≡ Y * 16777216 → d * L / 16777216 ≡ d * Y
-size-far d L Y e = let h : d * L ≡ d * Y * 16777216 = ap (λ (z : ℕ). d * z) e ∙ sym (mul_assoc d Y 16777216) in omega arith
+size_far : (d L Y : ℕ) → L ≡ Y * 16777216 → d * L / 16777216 ≡ d * Y
+size_far d L Y e = let h : d * L ≡ d * Y * 16777216 = ap (λ (z : ℕ). d * z) e ∙ sym (mul_assoc d Y 16777216) in omega arith
 
-pub size-whole : (x d : ℕ) → 94 ≤ x → d * 2 ^ (x - 94) / 16777216 ≡ size_at x d
+pub size_whole : (x d : ℕ) → 94 ≤ x → d * 2 ^ (x - 94) / 16777216 ≡ size_at x d
 unfolding size_at
-size-whole x d l = go (ltb x 118) (λ t. ltb→lt x 118 t) (λ t. nltb→le x 118 t)
+size_whole x d l = go (ltb x 118) (λ t. ltb→lt x 118 t) (λ t. nltb→le x 118 t)
   where
     go : (b : Bool) → (T b → x < 118) → (T (not b) → 118 ≤ x) → d * 2 ^ (x - 94) / 16777216 ≡ cond b (d / 2 ^ (118 - x)) (d * 2 ^ (x - 118))
-    go true y n = size-mid d (2 ^ (x - 94)) (2 ^ (118 - x)) (pow_pos (118 - x)) (lower x l (y tt))
-    go false y n = size-far d (2 ^ (x - 94)) (2 ^ (x - 118)) (upper x (n tt))
+    go true y n = size_mid d (2 ^ (x - 94)) (2 ^ (118 - x)) (pow_pos (118 - x)) (lower x l (y tt))
+    go false y n = size_far d (2 ^ (x - 94)) (2 ^ (x - 118)) (upper x (n tt))
 
 -- 2 ^ 63 ± a, which is 128 ± a in Q56
 abbrev around : Bool → ℕ → ℕ
 around true a = 9223372036854775808 - a
 around false a = 9223372036854775808 + a
 
-place-mid : (s : Bool) (d L K : ℕ) → 0 < K → L * K ≡ 16777216 → around s (d * L) / 16777216 ≡ shifted s d (4294967296 * K) / K
-place-mid s d L K p e = div_same (around s (d * L)) 16777216 (shifted s d (4294967296 * K)) K (lit< tt) p (same s)
+place_mid : (s : Bool) (d L K : ℕ) → 0 < K → L * K ≡ 16777216 → around s (d * L) / 16777216 ≡ shifted s d (4294967296 * K) / K
+place_mid s d L K p e = div_same (around s (d * L)) 16777216 (shifted s d (4294967296 * K)) K (lit< tt) p (same s)
   where
     product : d * L * K ≡ d * 16777216
     product = mul_assoc d L K ∙ ap (λ (z : ℕ). d * z) e
@@ -59,44 +59,44 @@ place-mid s d L K p e = div_same (around s (d * L)) 16777216 (shifted s d (42949
     same : (s : Bool) → around s (d * L) * K ≡ shifted s d (4294967296 * K) * 16777216
     same true =
         let u : 9223372036854775808 * K ≡ 128 * (4294967296 * K) * 16777216 = omega arith in
-        rw (sub-mul 9223372036854775808 (d * L) K, sub-mul (128 * (4294967296 * K)) d 16777216, product, u)
+        rw (sub_mul 9223372036854775808 (d * L) K, sub_mul (128 * (4294967296 * K)) d 16777216, product, u)
     same false = simp ac (omega (arith, simp ac at product))
 
-place-far : (s : Bool) (d L Y : ℕ) → L ≡ Y * 16777216 → around s (d * L) / 16777216 ≡ shifted s (d * Y) 4294967296
-place-far true d L Y e = let h : d * L ≡ d * Y * 16777216 = ap (λ (z : ℕ). d * z) e ∙ sym (mul_assoc d Y 16777216) in omega arith
-place-far false d L Y e = let h : d * L ≡ d * Y * 16777216 = ap (λ (z : ℕ). d * z) e ∙ sym (mul_assoc d Y 16777216) in omega arith
+place_far : (s : Bool) (d L Y : ℕ) → L ≡ Y * 16777216 → around s (d * L) / 16777216 ≡ shifted s (d * Y) 4294967296
+place_far true d L Y e = let h : d * L ≡ d * Y * 16777216 = ap (λ (z : ℕ). d * z) e ∙ sym (mul_assoc d Y 16777216) in omega arith
+place_far false d L Y e = let h : d * L ≡ d * Y * 16777216 = ap (λ (z : ℕ). d * z) e ∙ sym (mul_assoc d Y 16777216) in omega arith
 
-place-whole : (s : Bool) (x d : ℕ) → 94 ≤ x → around s (d * 2 ^ (x - 94)) / 16777216 ≡ placeAt s x d
-unfolding placeAt
-place-whole s x d l = go (ltb x 118) (λ t. ltb→lt x 118 t) (λ t. nltb→le x 118 t)
+place_whole : (s : Bool) (x d : ℕ) → 94 ≤ x → around s (d * 2 ^ (x - 94)) / 16777216 ≡ place_at s x d
+unfolding place_at
+place_whole s x d l = go (ltb x 118) (λ t. ltb→lt x 118 t) (λ t. nltb→le x 118 t)
   where
     go : (b : Bool) → (T b → x < 118) → (T (not b) → 118 ≤ x) → around s (d * 2 ^ (x - 94)) / 16777216 ≡ cond b (shifted s d (4294967296 * 2 ^ (118 - x)) / 2 ^ (118 - x)) (shifted s (d * 2 ^ (x - 118)) 4294967296)
-    go true y n = place-mid s d (2 ^ (x - 94)) (2 ^ (118 - x)) (pow_pos (118 - x)) (lower x l (y tt))
-    go false y n = place-far s d (2 ^ (x - 94)) (2 ^ (x - 118)) (upper x (n tt))
+    go true y n = place_mid s d (2 ^ (x - 94)) (2 ^ (118 - x)) (pow_pos (118 - x)) (lower x l (y tt))
+    go false y n = place_far s d (2 ^ (x - 94)) (2 ^ (x - 118)) (upper x (n tt))
 
-pub place-minus : (x d : ℕ) → 94 ≤ x → (9223372036854775808 - d * 2 ^ (x - 94)) / 16777216 ≡ placeAt true x d
-place-minus = place-whole true
+pub place_minus : (x d : ℕ) → 94 ≤ x → (9223372036854775808 - d * 2 ^ (x - 94)) / 16777216 ≡ place_at true x d
+place_minus = place_whole true
 
-pub place-plus : (x d : ℕ) → 94 ≤ x → (9223372036854775808 + d * 2 ^ (x - 94)) / 16777216 ≡ placeAt false x d
-place-plus = place-whole false
+pub place_plus : (x d : ℕ) → 94 ≤ x → (9223372036854775808 + d * 2 ^ (x - 94)) / 16777216 ≡ place_at false x d
+place_plus = place_whole false
 
 -- ---- a number below 2 ^ -32
 tiny : (x d : ℕ) → x < 94 → d < 16777216 → d < 2 ^ (118 - x)
 tiny x d h k = lt_of_lt_of_le k (pow_mono {i = 24} (omega arith))
 
-under : (s : Bool) (x d : ℕ) → x < 94 → shifted s d (4294967296 * 2 ^ (118 - x)) / 2 ^ (118 - x) ≡ placeAt s x d
-unfolding placeAt
+under : (s : Bool) (x d : ℕ) → x < 94 → shifted s d (4294967296 * 2 ^ (118 - x)) / 2 ^ (118 - x) ≡ place_at s x d
+unfolding place_at
 under s x d h = rw (is_true (ltb x 118) (lt→ltb x 118 (omega arith)))
 
-pub near-neg : (x d : ℕ) → x < 94 → d < 16777216 → 0 < d → 549755813887 ≡ placeAt true x d
-near-neg x d h k p = let t = tiny x d h k in sym (div-eq_of_lt-le {k = 549755813887} (2 ^ (118 - x)) (omega arith) (omega arith)) ∙ under true x d h
+pub near_neg : (x d : ℕ) → x < 94 → d < 16777216 → 0 < d → 549755813887 ≡ place_at true x d
+near_neg x d h k p = let t = tiny x d h k in sym (div-eq_of_lt-le {k = 549755813887} (2 ^ (118 - x)) (omega arith) (omega arith)) ∙ under true x d h
 
-pub near-zero : (x : ℕ) → x < 94 → 549755813888 ≡ placeAt true x 0
-near-zero x h = sym (div-eq_of_lt-le {k = 549755813888} (2 ^ (118 - x)) (omega arith) (omega (arith, pow_pos (118 - x)))) ∙ under true x 0 h
+pub near_zero : (x : ℕ) → x < 94 → 549755813888 ≡ place_at true x 0
+near_zero x h = sym (div-eq_of_lt-le {k = 549755813888} (2 ^ (118 - x)) (omega arith) (omega (arith, pow_pos (118 - x)))) ∙ under true x 0 h
 
-pub near-pos : (x d : ℕ) → x < 94 → d < 16777216 → 549755813888 ≡ placeAt false x d
-near-pos x d h k = let t = tiny x d h k in sym (div-eq_of_lt-le {k = 549755813888} (2 ^ (118 - x)) (omega arith) (omega arith)) ∙ under false x d h
+pub near_pos : (x d : ℕ) → x < 94 → d < 16777216 → 549755813888 ≡ place_at false x d
+near_pos x d h k = let t = tiny x d h k in sym (div-eq_of_lt-le {k = 549755813888} (2 ^ (118 - x)) (omega arith) (omega arith)) ∙ under false x d h
 
-pub size-tiny : (x d : ℕ) → x < 94 → d < 16777216 → 0 ≡ size_at x d
+pub size_tiny : (x d : ℕ) → x < 94 → d < 16777216 → 0 ≡ size_at x d
 unfolding size_at
-size-tiny x d h k = rw (is_true (ltb x 118) (lt→ltb x 118 (omega arith))) (sym (div-eq_of_lt (tiny x d h k)))
+size_tiny x d h k = rw (is_true (ltb x 118) (lt→ltb x 118 (omega arith))) (sym (div-eq_of_lt (tiny x d h k)))

@@ -39,14 +39,14 @@ size_of (inf s) = 0
 size_of (fin s m e) = m * up e * 2 ^ 32 / down e
 
 -- both by a pattern's fields: digits D and exponent's field x are D * 2 ^ (x - 150)
-unfoldable pub placeAt : Bool → ℕ → ℕ → ℕ
-placeAt s x D = cond (ltb x 118) (shifted s D (2 ^ 32 * 2 ^ (118 - x)) / 2 ^ (118 - x)) (shifted s (D * 2 ^ (x - 118)) (2 ^ 32))
+unfoldable pub place_at : Bool → ℕ → ℕ → ℕ
+place_at s x D = cond (ltb x 118) (shifted s D (2 ^ 32 * 2 ^ (118 - x)) / 2 ^ (118 - x)) (shifted s (D * 2 ^ (x - 118)) (2 ^ 32))
 
 unfoldable pub size_at : ℕ → ℕ → ℕ
 size_at x D = cond (ltb x 118) (D / 2 ^ (118 - x)) (D * 2 ^ (x - 118))
 
 -- q of Qk as a float: its leading 24 digits, rounded at the 25th
-unfoldable pub packOf : ℕ → ℕ → Float
-packOf q k =
+unfoldable pub pack_of : ℕ → ℕ → Float
+pack_of q k =
     let z = count_leading_zeros 64 q in
     of_bits binary32 ((189 - z - k) * 2 ^ 23 + (q * 2 ^ z / 2 ^ 39 + 1) / 2)

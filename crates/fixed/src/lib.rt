@@ -1,12 +1,12 @@
 // A float taken apart into fixed point, and put together again. Qk is a whole number that stands for itself over 2^k.
 ghost use Rattle.std.specs.Prelude.{◌≡◌, ◌^◌, ◌<◌, ◌≤◌, T};
 ghost use Rattle.series.specs.Near.{Relative};
-ghost use Rattle.fixed.specs.Fixed.{small, placeAt, place_of, size_at, size_of, packOf};
+ghost use Rattle.fixed.specs.Fixed.{small, place_at, place_of, size_at, size_of, pack_of};
 
 // 128 ± d * 2^(x - 150) in Q32, cut: in Q56 it is whole
 fn place(negative: bool, x: u64, d: u64) -> u64
     requires { (94 ≤ x) × (x ≤ 133) × (d < 16777216) }
-    ensures { result ≡ placeAt negative x d }
+    ensures { result ≡ place_at negative x d }
 {
     let a = d << (x - 94); // Q56
     if negative {
@@ -55,7 +55,7 @@ pub fn size(t: f32) -> u64
 // q of Qk as a float, to the nearest
 pub fn pack(q: u64, k: u64) -> f32
     requires { (0 < q) × (k ≤ 120) }
-    ensures is { result ≡ packOf q k }
+    ensures is { result ≡ pack_of q k }
     ensures near { Relative (2 ^ 24) q (2 ^ k) result }
 {
     let z = u64::leading_zeros(q) as u64;

@@ -23,13 +23,13 @@ at_least : (q d n : ℕ) → 0 < d → n * d ≤ q → n ≤ q / d
 at_least q d n h k = (le-div_iff_mul-le h).1 k
 
 -- below the top or at it, where the two are unequal or equal
-le-or : (a b : ℕ) (c : Bool) → (ltb a b || (eqb b a && (true || c))) ≡ true → a ≤ b
-le-or a b c e = le-by (ltb a b) (eqb b a) refl refl e
+le_or : (a b : ℕ) (c : Bool) → (ltb a b || (eqb b a && (true || c))) ≡ true → a ≤ b
+le_or a b c e = le_by (ltb a b) (eqb b a) refl refl e
   where
-    le-by : (s t : Bool) → ltb a b ≡ s → eqb b a ≡ t → (s || (t && (true || c))) ≡ true → a ≤ b
-    le-by true t p q r = let h = ltb-true a b p in omega arith
-    le-by false true p q r = let h = eqb-true b a q in omega arith
-    le-by false false p q r = no r
+    le_by : (s t : Bool) → ltb a b ≡ s → eqb b a ≡ t → (s || (t && (true || c))) ≡ true → a ≤ b
+    le_by true t p q r = let h = ltb-true a b p in omega arith
+    le_by false true p q r = let h = eqb-true b a q in omega arith
+    le_by false false p q r = no r
 
 pub record In (y : Float) : Type 0 where
   pub low : T (le (fin true 1 (pos 63)) y)
@@ -67,7 +67,7 @@ inside (fin false m e) h k =
     }
 inside (fin true m e) h k =
     let p = down_pos e in
-    let q = le-or (m * up e * 1) (2147483648 * down e) (eqb (2147483648 * down e) 0) k in
+    let q = le_or (m * up e * 1) (2147483648 * down e) (eqb (2147483648 * down e) 0) k in
     let r : m * up e / down e ≤ 2147483648 = at_most (m * up e) (down e) 2147483648 (omega arith) in
     let z : min (m * up e / down e) 9223372036854775808 ≡ min (m * up e / down e) 2147483648 = omega arith in
     record {
@@ -111,9 +111,9 @@ unfolding to_signed
 none y h = rw (differs_from_itself y (yes _ h))
 
 -- a whole number from -2^24 to 2^24 loses nothing
-pub in-float : (z : ℤ) → (le_z (negsuc 16777215) z && le_z z (pos 16777216)) ≡ true → T (in_float binary32 z)
+pub in_float_lem : (z : ℤ) → (le_z (negsuc 16777215) z && le_z z (pos 16777216)) ≡ true → T (in_float binary32 z)
 unfolding in_float
-in-float (pos n) h = yes _ h
-in-float (negsuc n) h =
+in_float_lem (pos n) h = yes _ h
+in_float_lem (negsuc n) h =
     let k = leb→le n 16777215 (and_l (leb n 16777215) true (yes _ h)) in
     lt→ltb n 16777216 (omega arith)

@@ -3,49 +3,49 @@ use Rattle.std.proofs.Common.{Bool, true, cond, ◌&&◌, T}
 use lib.Ieee.{mul, div, Float, Format, neg, add, sub, le, lt, ne, fits}
 use lib.Ieee.Fits.{and_i, and_l, and_r}
 use Rattle.line.proofs.Mono.{Good}
-use Rattle.line.proofs.Range.{In, good, good_of, ends, inside, wideT, in-self, in-wide, in-cond, in-add, addT, in-neg, in-mul, mulT, in-div, divT, not-lt, cut_high, cut_low}
-use Rattle.float.specs.Floats.{minOf, max_of, clampOf}
+use Rattle.line.proofs.Range.{In, good, good_of, ends, inside, wide_t, in_self, in_wide, in_cond, in_add, add_t, in_neg, in_mul, mul_t, in_div, div_t, not_lt, cut_high, cut_low}
+use Rattle.float.specs.Floats.{min_of, max_of, clamp_of}
 
 -- ---- min, max and clamp with constants
 module _ (f : Format) (lo hi : Float) where
-  at-end : (c d : Float) → T (good f c && wideT f lo hi c d) → In f lo hi c
-  at-end c d t =
-      let w = and_r (good f c) (wideT f lo hi c d) t in
+  at_end : (c d : Float) → T (good f c && wide_t f lo hi c d) → In f lo hi c
+  at_end c d t =
+      let w = and_r (good f c) (wide_t f lo hi c d) t in
       let e = and_l (ends f lo hi) (inside lo hi c && inside lo hi d) w in
       let i = and_l (inside lo hi c) (inside lo hi d) (and_r (ends f lo hi) (inside lo hi c && inside lo hi d) w) in
-      record { low = good_of f lo (and_l (good f lo) (good f hi) e); high = good_of f hi (and_r (good f lo) (good f hi) e); ok = good_of f c (and_l (good f c) (wideT f lo hi c d) t); from = and_l (le lo c) (le c hi) i; upto = and_r (le lo c) (le c hi) i }
+      record { low = good_of f lo (and_l (good f lo) (good f hi) e); high = good_of f hi (and_r (good f lo) (good f hi) e); ok = good_of f c (and_l (good f c) (wide_t f lo hi c d) t); from = and_l (le lo c) (le c hi) i; upto = and_r (le lo c) (le c hi) i }
 
-  pub in-max : {a b x : Float} → In f a b x → (c : Float) → T (good f c && wideT f lo hi c b) → In f lo hi (max_of x c)
+  pub in_max : {a b x : Float} → In f a b x → (c : Float) → T (good f c && wide_t f lo hi c b) → In f lo hi (max_of x c)
   unfolding max_of
-  in-max {a} {b} {x} h c t =
-      in-cond f lo hi (lt x c) (λ u. at-end c b t)
-      (λ u. in-cond f lo hi (ne x x) (λ v. at-end c b t)
-      (λ v. in-wide f lo hi (cut_low h c (and_l (good f c) (wideT f lo hi c b) t) (not-lt f c x (good_of f c (and_l (good f c) (wideT f lo hi c b) t)) h.ok u)) (and_r (good f c) (wideT f lo hi c b) t)))
+  in_max {a} {b} {x} h c t =
+      in_cond f lo hi (lt x c) (λ u. at_end c b t)
+      (λ u. in_cond f lo hi (ne x x) (λ v. at_end c b t)
+      (λ v. in_wide f lo hi (cut_low h c (and_l (good f c) (wide_t f lo hi c b) t) (not_lt f c x (good_of f c (and_l (good f c) (wide_t f lo hi c b) t)) h.ok u)) (and_r (good f c) (wide_t f lo hi c b) t)))
 
-  pub in-min : {a b x : Float} → In f a b x → (c : Float) → T (good f c && wideT f lo hi c a) → In f lo hi (minOf x c)
-  unfolding minOf
-  in-min {a} {b} {x} h c t =
-      in-cond f lo hi (lt c x) (λ u. at-end c a t)
-      (λ u. in-cond f lo hi (ne x x) (λ v. at-end c a t)
-      (λ v. turned (cut_high h c (and_l (good f c) (wideT f lo hi c a) t) (not-lt f x c h.ok (good_of f c (and_l (good f c) (wideT f lo hi c a) t)) u)) (and_r (good f c) (wideT f lo hi c a) t)))
+  pub in_min : {a b x : Float} → In f a b x → (c : Float) → T (good f c && wide_t f lo hi c a) → In f lo hi (min_of x c)
+  unfolding min_of
+  in_min {a} {b} {x} h c t =
+      in_cond f lo hi (lt c x) (λ u. at_end c a t)
+      (λ u. in_cond f lo hi (ne x x) (λ v. at_end c a t)
+      (λ v. turned (cut_high h c (and_l (good f c) (wide_t f lo hi c a) t) (not_lt f x c h.ok (good_of f c (and_l (good f c) (wide_t f lo hi c a) t)) u)) (and_r (good f c) (wide_t f lo hi c a) t)))
     where
-      turned : {a c x : Float} → In f a c x → T (wideT f lo hi c a) → In f lo hi x
+      turned : {a c x : Float} → In f a c x → T (wide_t f lo hi c a) → In f lo hi x
       turned {a} {c} {x} h t =
           let e = and_l (ends f lo hi) (inside lo hi c && inside lo hi a) t in
           let i = and_r (ends f lo hi) (inside lo hi c && inside lo hi a) t in
-          in-wide f lo hi h (and_i (ends f lo hi) (inside lo hi a && inside lo hi c) e (and_i (inside lo hi a) (inside lo hi c) (and_r (inside lo hi c) (inside lo hi a) i) (and_l (inside lo hi c) (inside lo hi a) i)))
+          in_wide f lo hi h (and_i (ends f lo hi) (inside lo hi a && inside lo hi c) e (and_i (inside lo hi a) (inside lo hi c) (and_r (inside lo hi c) (inside lo hi a) i) (and_l (inside lo hi c) (inside lo hi a) i)))
 
   -- of any value that is finite
-  pub in-clamp : (x : Float) → Good f x → (l h : Float) → T ((good f l && wideT f lo hi l h) && (good f h && wideT f lo hi h l)) → In f lo hi (clampOf x l h)
-  unfolding clampOf
-  in-clamp x g l h t =
-      let p = and_l (good f l && wideT f lo hi l h) (good f h && wideT f lo hi h l) t in
-      let q = and_r (good f l && wideT f lo hi l h) (good f h && wideT f lo hi h l) t in
-      let gl = good_of f l (and_l (good f l) (wideT f lo hi l h) p) in
-      let gh = good_of f h (and_l (good f h) (wideT f lo hi h l) q) in
-      in-cond f lo hi (lt x l) (λ u. at-end l h p)
-      (λ u. in-cond f lo hi (lt h x) (λ v. at-end h l q)
-      (λ v. in-wide f lo hi (record { low = gl; high = gh; ok = g; from = not-lt f l x gl g u; upto = not-lt f x h g gh v }) (and_r (good f l) (wideT f lo hi l h) p)))
+  pub in_clamp : (x : Float) → Good f x → (l h : Float) → T ((good f l && wide_t f lo hi l h) && (good f h && wide_t f lo hi h l)) → In f lo hi (clamp_of x l h)
+  unfolding clamp_of
+  in_clamp x g l h t =
+      let p = and_l (good f l && wide_t f lo hi l h) (good f h && wide_t f lo hi h l) t in
+      let q = and_r (good f l && wide_t f lo hi l h) (good f h && wide_t f lo hi h l) t in
+      let gl = good_of f l (and_l (good f l) (wide_t f lo hi l h) p) in
+      let gh = good_of f h (and_l (good f h) (wide_t f lo hi h l) q) in
+      in_cond f lo hi (lt x l) (λ u. at_end l h p)
+      (λ u. in_cond f lo hi (lt h x) (λ v. at_end h l q)
+      (λ v. in_wide f lo hi (record { low = gl; high = gh; ok = g; from = not_lt f l x gl g u; upto = not_lt f x h g gh v }) (and_r (good f l) (wide_t f lo hi l h) p)))
 
 -- ---- the evaluator: an expression over values of known ranges, its value, the range guessed from the ends, and the test that the guess is right
 pub data Ex (f : Format) : Type 0 where
@@ -63,9 +63,9 @@ value {f} (plus u v) = add f (value u) (value v)
 value {f} (minus u v) = sub f (value u) (value v)
 value {f} (times u v) = mul f (value u) (value v)
 value {f} (over u c) = div f (value u) c
-value (capped u c) = minOf (value u) c
+value (capped u c) = min_of (value u) c
 value (floored u c) = max_of (value u) c
-value (clamped u l h) = clampOf (value u) l h
+value (clamped u l h) = clamp_of (value u) l h
 value (negate u) = neg (value u)
 
 pub record Box : Type 0 where
@@ -101,54 +101,54 @@ box (negate u) = record { lo = neg (box u).hi; hi = neg (box u).lo }
 unfoldable pub okay : {f : Format} → Ex f → Bool
 okay (leaf {a} {b} {x} h) = true
 okay {f} (con c) = good f c && le c c
-okay {f} (plus u v) = (okay u && okay v) && addT f (box (plus u v)).lo (box (plus u v)).hi (box u).lo (box u).hi (box v).lo (box v).hi
-okay {f} (minus u v) = (okay u && okay v) && (wideT f (neg (box v).hi) (neg (box v).lo) (neg (box v).lo) (neg (box v).hi) && addT f (box (minus u v)).lo (box (minus u v)).hi (box u).lo (box u).hi (neg (box v).hi) (neg (box v).lo))
-okay {f} (times u v) = (okay u && okay v) && mulT f (box (times u v)).lo (box (times u v)).hi (box u).lo (box u).hi (box v).lo (box v).hi
-okay {f} (over u c) = okay u && divT f (box (over u c)).lo (box (over u c)).hi (box u).lo (box u).hi c
-okay {f} (capped u c) = okay u && (good f c && wideT f (lesser (box u).lo c) c c (box u).lo)
-okay {f} (floored u c) = okay u && (good f c && wideT f c (greater (box u).hi c) c (box u).hi)
-okay {f} (clamped u l h) = okay u && ((good f l && wideT f l h l h) && (good f h && wideT f l h h l))
-okay {f} (negate u) = okay u && wideT f (box (negate u)).lo (box (negate u)).hi (neg (box u).lo) (neg (box u).hi)
+okay {f} (plus u v) = (okay u && okay v) && add_t f (box (plus u v)).lo (box (plus u v)).hi (box u).lo (box u).hi (box v).lo (box v).hi
+okay {f} (minus u v) = (okay u && okay v) && (wide_t f (neg (box v).hi) (neg (box v).lo) (neg (box v).lo) (neg (box v).hi) && add_t f (box (minus u v)).lo (box (minus u v)).hi (box u).lo (box u).hi (neg (box v).hi) (neg (box v).lo))
+okay {f} (times u v) = (okay u && okay v) && mul_t f (box (times u v)).lo (box (times u v)).hi (box u).lo (box u).hi (box v).lo (box v).hi
+okay {f} (over u c) = okay u && div_t f (box (over u c)).lo (box (over u c)).hi (box u).lo (box u).hi c
+okay {f} (capped u c) = okay u && (good f c && wide_t f (lesser (box u).lo c) c c (box u).lo)
+okay {f} (floored u c) = okay u && (good f c && wide_t f c (greater (box u).hi c) c (box u).hi)
+okay {f} (clamped u l h) = okay u && ((good f l && wide_t f l h l h) && (good f h && wide_t f l h h l))
+okay {f} (negate u) = okay u && wide_t f (box (negate u)).lo (box (negate u)).hi (neg (box u).lo) (neg (box u).hi)
 
 pub sound : {f : Format} (e : Ex f) → T (okay e) → In f (box e).lo (box e).hi (value e)
 unfolding okay box sub
 sound (leaf {a} {b} {x} h) t = h
-sound {f} (con c) t = in-self f c t
+sound {f} (con c) t = in_self f c t
 sound {f} (plus u v) t =
-    let k = addT f (box (plus u v)).lo (box (plus u v)).hi (box u).lo (box u).hi (box v).lo (box v).hi in
+    let k = add_t f (box (plus u v)).lo (box (plus u v)).hi (box u).lo (box u).hi (box v).lo (box v).hi in
     let p = and_l (okay u && okay v) k t in
-    in-add f (box (plus u v)).lo (box (plus u v)).hi (sound u (and_l (okay u) (okay v) p)) (sound v (and_r (okay u) (okay v) p)) (and_r (okay u && okay v) k t)
+    in_add f (box (plus u v)).lo (box (plus u v)).hi (sound u (and_l (okay u) (okay v) p)) (sound v (and_r (okay u) (okay v) p)) (and_r (okay u && okay v) k t)
 sound {f} (minus u v) t =
-    let m = wideT f (neg (box v).hi) (neg (box v).lo) (neg (box v).lo) (neg (box v).hi) in
-    let k = addT f (box (minus u v)).lo (box (minus u v)).hi (box u).lo (box u).hi (neg (box v).hi) (neg (box v).lo) in
+    let m = wide_t f (neg (box v).hi) (neg (box v).lo) (neg (box v).lo) (neg (box v).hi) in
+    let k = add_t f (box (minus u v)).lo (box (minus u v)).hi (box u).lo (box u).hi (neg (box v).hi) (neg (box v).lo) in
     let p = and_l (okay u && okay v) (m && k) t in
     let q = and_r (okay u && okay v) (m && k) t in
-    in-add f (box (minus u v)).lo (box (minus u v)).hi (sound u (and_l (okay u) (okay v) p)) (in-neg f (neg (box v).hi) (neg (box v).lo) (sound v (and_r (okay u) (okay v) p)) (and_l m k q)) (and_r m k q)
+    in_add f (box (minus u v)).lo (box (minus u v)).hi (sound u (and_l (okay u) (okay v) p)) (in_neg f (neg (box v).hi) (neg (box v).lo) (sound v (and_r (okay u) (okay v) p)) (and_l m k q)) (and_r m k q)
 sound {f} (times u v) t =
-    let k = mulT f (box (times u v)).lo (box (times u v)).hi (box u).lo (box u).hi (box v).lo (box v).hi in
+    let k = mul_t f (box (times u v)).lo (box (times u v)).hi (box u).lo (box u).hi (box v).lo (box v).hi in
     let p = and_l (okay u && okay v) k t in
-    in-mul f (box (times u v)).lo (box (times u v)).hi (sound u (and_l (okay u) (okay v) p)) (sound v (and_r (okay u) (okay v) p)) (and_r (okay u && okay v) k t)
+    in_mul f (box (times u v)).lo (box (times u v)).hi (sound u (and_l (okay u) (okay v) p)) (sound v (and_r (okay u) (okay v) p)) (and_r (okay u && okay v) k t)
 sound {f} (over u c) t =
-    let k = divT f (box (over u c)).lo (box (over u c)).hi (box u).lo (box u).hi c in
-    in-div f (box (over u c)).lo (box (over u c)).hi (sound u (and_l (okay u) k t)) c (and_r (okay u) k t)
+    let k = div_t f (box (over u c)).lo (box (over u c)).hi (box u).lo (box u).hi c in
+    in_div f (box (over u c)).lo (box (over u c)).hi (sound u (and_l (okay u) k t)) c (and_r (okay u) k t)
 sound {f} (capped u c) t =
-    let k = good f c && wideT f (lesser (box u).lo c) c c (box u).lo in
-    in-min f (lesser (box u).lo c) c (sound u (and_l (okay u) k t)) c (and_r (okay u) k t)
+    let k = good f c && wide_t f (lesser (box u).lo c) c c (box u).lo in
+    in_min f (lesser (box u).lo c) c (sound u (and_l (okay u) k t)) c (and_r (okay u) k t)
 sound {f} (floored u c) t =
-    let k = good f c && wideT f c (greater (box u).hi c) c (box u).hi in
-    in-max f c (greater (box u).hi c) (sound u (and_l (okay u) k t)) c (and_r (okay u) k t)
+    let k = good f c && wide_t f c (greater (box u).hi c) c (box u).hi in
+    in_max f c (greater (box u).hi c) (sound u (and_l (okay u) k t)) c (and_r (okay u) k t)
 sound {f} (clamped u l h) t =
-    let k = (good f l && wideT f l h l h) && (good f h && wideT f l h h l) in
-    in-clamp f l h (value u) (sound u (and_l (okay u) k t)).ok l h (and_r (okay u) k t)
+    let k = (good f l && wide_t f l h l h) && (good f h && wide_t f l h h l) in
+    in_clamp f l h (value u) (sound u (and_l (okay u) k t)).ok l h (and_r (okay u) k t)
 sound {f} (negate u) t =
-    let k = wideT f (box (negate u)).lo (box (negate u)).hi (neg (box u).lo) (neg (box u).hi) in
-    in-neg f (box (negate u)).lo (box (negate u)).hi (sound u (and_l (okay u) k t)) (and_r (okay u) k t)
+    let k = wide_t f (box (negate u)).lo (box (negate u)).hi (neg (box u).lo) (neg (box u).hi) in
+    in_neg f (box (negate u)).lo (box (negate u)).hi (sound u (and_l (okay u) k t)) (and_r (okay u) k t)
 
 -- the form to use: the ends that are wanted, the expression, and `tt`
 unfoldable pub proves : {f : Format} → Float → Float → Ex f → Bool
 unfolding okay box hull sub mul div le fits
-proves {f} lo hi e = okay e && wideT f lo hi (box e).lo (box e).hi
+proves {f} lo hi e = okay e && wide_t f lo hi (box e).lo (box e).hi
 
 pub range : {f : Format} (lo hi : Float) (e : Ex f) → T (proves lo hi e) → In f lo hi (value e)
 unfolding proves
-range {f} lo hi e t = in-wide f lo hi (sound e (and_l (okay e) (wideT f lo hi (box e).lo (box e).hi) t)) (and_r (okay e) (wideT f lo hi (box e).lo (box e).hi) t)
+range {f} lo hi e t = in_wide f lo hi (sound e (and_l (okay e) (wide_t f lo hi (box e).lo (box e).hi) t)) (and_r (okay e) (wide_t f lo hi (box e).lo (box e).hi) t)

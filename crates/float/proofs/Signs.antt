@@ -4,8 +4,8 @@ use mathlib.Core.Bool.{or-true}
 use lib.Pow.{pow-lt}
 use lib.Ieee.{Float, binary32, nan, inf, fin, up, down, lt, eq, neg, add, div, fits}
 use lib.Ieee.Fits.{up_pos}
-use Rattle.float.specs.Floats.{absOf, signumOf}
-use Rattle.float.proofs.Remainder.{plus-nought}
+use Rattle.float.specs.Floats.{abs_of, signum_of}
+use Rattle.float.proofs.Remainder.{plus_nought}
 
 no : {X : Type 0} → false ≡ true → X
 no e = let z : ◌≡◌ {A = ℕ} 0 1 = ap (λ (b : Bool). cond b 1 0) e in absurd (omega arith)
@@ -14,13 +14,13 @@ abbrev pub zero+ : Float
 zero+ = fin false 0 (pos 0)
 
 -- ---- the size
-pub abs-below : (x : Float) → lt x zero+ ≡ true → neg x ≡ absOf x
-unfolding lt neg absOf
-abs-below nan h = no h
-abs-below (inf true) h = refl
-abs-below (inf false) h = no h
-abs-below (fin true m e) h = refl
-abs-below (fin false m e) h = let k = ltb-true (m * up e * 1) (0 * down e) h in absurd (omega arith)
+pub abs_below : (x : Float) → lt x zero+ ≡ true → neg x ≡ abs_of x
+unfolding lt neg abs_of
+abs_below nan h = no h
+abs_below (inf true) h = refl
+abs_below (inf false) h = no h
+abs_below (fin true m e) h = refl
+abs_below (fin false m e) h = let k = ltb-true (m * up e * 1) (0 * down e) h in absurd (omega arith)
 
 -- a zero is written in one way
 flat : (e : ℤ) → up e * down e ≡ 1 → e ≡ pos 0
@@ -37,14 +37,14 @@ big : (m : ℕ) (e : ℤ) → 0 < suc m * up e
 big m e = mul-pos (omega arith) (up_pos e)
 
 -- what is not below zero, plus +0, is its size
-pub abs-plus : (x : Float) → T (fits binary32 x) → lt x zero+ ≡ false → add binary32 x zero+ ≡ absOf x
-unfolding lt add absOf fits
-abs-plus nan t h = refl
-abs-plus (inf true) t h = no (sym h)
-abs-plus (inf false) t h = refl
-abs-plus (fin false m e) t h = plus-nought m e t
-abs-plus (fin true zero e) t h = rw (flat e (eqb→eq (up e * down e) 1 t)) refl
-abs-plus (fin true (suc m) e) t h =
+pub abs_plus : (x : Float) → T (fits binary32 x) → lt x zero+ ≡ false → add binary32 x zero+ ≡ abs_of x
+unfolding lt add abs_of fits
+abs_plus nan t h = refl
+abs_plus (inf true) t h = no (sym h)
+abs_plus (inf false) t h = refl
+abs_plus (fin false m e) t h = plus_nought m e t
+abs_plus (fin true zero e) t h = rw (flat e (eqb→eq (up e * down e) 1 t)) refl
+abs_plus (fin true (suc m) e) t h =
     let b = big m e in
     let q = ltb-false 0 (suc m * up e * 1 + 0 * down e) h in
     absurd (omega arith)
@@ -57,48 +57,48 @@ clash a b s p q l = no (sym (level_by (eqb a b) (eqb a 0) (eq-eqb a b (p ∙ sym
     level_by t u e f g = sym (ap (λ (v : Bool). v && (s || u)) e ∙ ap (λ (v : Bool). s || v) f ∙ or-true s) ∙ g
 
 -- what neither test nor equality finds is no number
-pub abs-none : (x : Float) → lt x zero+ ≡ false → lt zero+ x ≡ false → eq x zero+ ≡ false → x ≡ nan
+pub abs_none : (x : Float) → lt x zero+ ≡ false → lt zero+ x ≡ false → eq x zero+ ≡ false → x ≡ nan
 unfolding lt eq
-abs-none nan h k l = refl
-abs-none (inf true) h k l = no (sym h)
-abs-none (inf false) h k l = no (sym k)
-abs-none (fin true m e) h k l =
+abs_none nan h k l = refl
+abs_none (inf true) h k l = no (sym h)
+abs_none (inf false) h k l = no (sym k)
+abs_none (fin true m e) h k l =
     let q = ltb-false 0 (m * up e * 1 + 0 * down e) h in clash (m * up e * 1) (0 * down e) false (omega arith) (omega arith) l
-abs-none (fin false m e) h k l =
+abs_none (fin false m e) h k l =
     let q = ltb-false (0 * down e) (m * up e * 1) k in clash (m * up e * 1) (0 * down e) true (omega arith) (omega arith) l
 
 -- ---- the sign
-pub signum-below : (x : Float) → lt x zero+ ≡ true → fin true 1 (pos 0) ≡ signumOf x
-unfolding lt signumOf
-signum-below nan h = no h
-signum-below (inf true) h = refl
-signum-below (inf false) h = no h
-signum-below (fin true m e) h = refl
-signum-below (fin false m e) h = let k = ltb-true (m * up e * 1) (0 * down e) h in absurd (omega arith)
+pub signum_below : (x : Float) → lt x zero+ ≡ true → fin true 1 (pos 0) ≡ signum_of x
+unfolding lt signum_of
+signum_below nan h = no h
+signum_below (inf true) h = refl
+signum_below (inf false) h = no h
+signum_below (fin true m e) h = refl
+signum_below (fin false m e) h = let k = ltb-true (m * up e * 1) (0 * down e) h in absurd (omega arith)
 
-pub signum-above : (x : Float) → lt zero+ x ≡ true → fin false 1 (pos 0) ≡ signumOf x
-unfolding lt signumOf
-signum-above nan h = no h
-signum-above (inf true) h = no h
-signum-above (inf false) h = refl
-signum-above (fin false m e) h = refl
-signum-above (fin true m e) h = no h
+pub signum_above : (x : Float) → lt zero+ x ≡ true → fin false 1 (pos 0) ≡ signum_of x
+unfolding lt signum_of
+signum_above nan h = no h
+signum_above (inf true) h = no h
+signum_above (inf false) h = refl
+signum_above (fin false m e) h = refl
+signum_above (fin true m e) h = no h
 
-pub signum-nan : (x : Float) → x ≡ nan → x ≡ signumOf x
-unfolding signumOf
-signum-nan x e = rw e
+pub signum_nan : (x : Float) → x ≡ nan → x ≡ signum_of x
+unfolding signum_of
+signum_nan x e = rw e
 
 -- one over a zero is an infinity with the zero's sign
-pub signum-zero : (x : Float) (b : Bool) → eq x zero+ ≡ true → lt (div binary32 (fin false 1 (pos 0)) x) zero+ ≡ b → fin b 1 (pos 0) ≡ signumOf x
-unfolding eq signumOf div lt
-signum-zero nan b h l = no h
-signum-zero (inf s) b h l = no h
-signum-zero (fin s zero e) b h l = ap (λ (t : Bool). fin t 1 (pos 0)) (sym l ∙ over s)
+pub signum_zero : (x : Float) (b : Bool) → eq x zero+ ≡ true → lt (div binary32 (fin false 1 (pos 0)) x) zero+ ≡ b → fin b 1 (pos 0) ≡ signum_of x
+unfolding eq signum_of div lt
+signum_zero nan b h l = no h
+signum_zero (inf s) b h l = no h
+signum_zero (fin s zero e) b h l = ap (λ (t : Bool). fin t 1 (pos 0)) (sym l ∙ over s)
   where
     over : (s : Bool) → lt (div binary32 (fin false 1 (pos 0)) (fin s 0 e)) zero+ ≡ s
     over true = refl
     over false = refl
-signum-zero (fin s (suc m) e) b h l =
+signum_zero (fin s (suc m) e) b h l =
     let c = big m e in
     let q = eqb-true (suc m * up e * 1) (0 * down e) (and_left (eqb (suc m * up e * 1) (0 * down e)) _ h) in
     absurd (omega arith)

@@ -204,12 +204,12 @@ abbrev pub k127p5 : Float
 k127p5 = from_bits binary32 0x42ff0000
 
 -- -128.0
-abbrev pub kM128 : Float
-kM128 = neg (from_bits binary32 0x43000000)
+abbrev pub k_m128 : Float
+k_m128 = neg (from_bits binary32 0x43000000)
 
 -- -127.5
-abbrev pub kM127p5 : Float
-kM127p5 = neg (from_bits binary32 0x42ff0000)
+abbrev pub k_m127p5 : Float
+k_m127p5 = neg (from_bits binary32 0x42ff0000)
 
 -- the sample rate, 48000.0
 abbrev pub FS : Float
@@ -224,12 +224,12 @@ abbrev pub PI : Float
 PI = from_bits binary32 0x40490fdb
 
 -- envelope levels per 6 dB, 16.0
-abbrev pub LEVELS-PER-6DB : Float
-LEVELS-PER-6DB = from_bits binary32 0x41800000
+abbrev pub LEVELS_PER_6DB : Float
+LEVELS_PER_6DB = from_bits binary32 0x41800000
 
 -- u32::MAX as f32
-abbrev pub kUMax : Float
-kUMax = from_bits binary32 0x4f800000
+abbrev pub k_u_max : Float
+k_u_max = from_bits binary32 0x4f800000
 
 -- the f32 nearest to n / d
 unfoldable pub near : ℕ → ℕ → Float
@@ -286,10 +286,10 @@ pub record Constants : Type 0 where
   pub c5p64 : k5p64 ≡ near 141 25
   pub c43p62 : k43p62 ≡ near 2181 50
   pub c127p5 : k127p5 ≡ near 255 2
-  pub cM128 : kM128 ≡ neg (near 128 1)
-  pub cM127p5 : kM127p5 ≡ neg (near 255 2)
-  pub cFS : FS ≡ near 48000 1
-  pub cTAU : TAU ≡ near 628318530717958 100000000000000
-  pub cPI : PI ≡ near 314159265358979 100000000000000
-  pub cLEVELS-PER-6DB : LEVELS-PER-6DB ≡ near 16 1
-  pub cUMax : kUMax ≡ of_int binary32 (pos 4294967295)
+  pub c_m128 : k_m128 ≡ neg (near 128 1)
+  pub c_m127p5 : k_m127p5 ≡ neg (near 255 2)
+  pub c_fs : FS ≡ near 48000 1
+  pub c_tau : TAU ≡ near 628318530717958 100000000000000
+  pub c_pi : PI ≡ near 314159265358979 100000000000000
+  pub c_levels_per_6_db : LEVELS_PER_6DB ≡ near 16 1
+  pub c_u_max : k_u_max ≡ of_int binary32 (pos 4294967295)

@@ -4,7 +4,7 @@ ghost use Rattle.std.specs.Float.{binary32};
 ghost use Rattle.std.specs.Float.Ieee.{rem, lt, of_int, to_signed};
 ghost use Rattle.std.specs.Float.Ieee.Scale.{finite};
 ghost use Rattle.float.specs.Consts.{k0, k1};
-ghost use Rattle.float.specs.Floats.{absOf, signumOf, minOf, max_of, clampOf, fractOf, remEuclidOf, to24Of};
+ghost use Rattle.float.specs.Floats.{abs_of, signum_of, min_of, max_of, clamp_of, fract_of, rem_euclid_of, to24_of};
 
 // The sample rate.
 pub const FS: f32 = 48000.0;
@@ -17,14 +17,14 @@ pub const LEVELS_PER_6DB: f32 = 16.0;
 
 // Adding +0 turns -0 into +0 and changes nothing else.
 pub fn abs(x: f32) -> f32
-    ensures { result ≡ absOf x }
+    ensures { result ≡ abs_of x }
 {
     if x < 0.0 { -x } else { x + 0.0 }
 }
 
 // The sign of a zero is that of one over it.
 pub fn signum(x: f32) -> f32
-    ensures { result ≡ signumOf x }
+    ensures { result ≡ signum_of x }
 {
     if x < 0.0 {
         -1.0
@@ -40,7 +40,7 @@ pub fn signum(x: f32) -> f32
 }
 
 pub fn min(a: f32, b: f32) -> f32
-    ensures { result ≡ minOf a b }
+    ensures { result ≡ min_of a b }
 {
     if b < a {
         b
@@ -64,7 +64,7 @@ pub fn max(a: f32, b: f32) -> f32
 }
 
 pub fn clamp(x: f32, lo: f32, hi: f32) -> f32
-    ensures { result ≡ clampOf x lo hi }
+    ensures { result ≡ clamp_of x lo hi }
 {
     if x < lo {
         lo
@@ -109,14 +109,14 @@ fn rem_one(x: f32) -> f32
 }
 
 pub fn fract(x: f32) -> f32
-    ensures { result ≡ fractOf x }
+    ensures { result ≡ fract_of x }
 {
     rem_one(x) + 0.0
 }
 
 // `x.rem_euclid(1.0)`
 pub fn rem_euclid_one(x: f32) -> f32
-    ensures { result ≡ remEuclidOf x k1 }
+    ensures { result ≡ rem_euclid_of x k1 }
 {
     let r = rem_one(x);
     if r < 0.0 { r + 1.0 } else { r }
@@ -166,7 +166,7 @@ const FULL_SCALE: f32 = 8388607.0;
 
 // A sample as a 24-bit word.
 pub fn to24(x: f32) -> i32
-    ensures { result ≡ to24Of x }
+    ensures { result ≡ to24_of x }
 {
     to_i32(clamp(x, -1.0, 1.0) * FULL_SCALE)
 }

@@ -4,25 +4,25 @@ ghost use Rattle.std.specs.Float.{binary32};
 ghost use Rattle.std.specs.Float.Ieee.{of_int, to_signed};
 ghost use Rattle.std.specs.Float.Ieee.Scale.{finite};
 ghost use Rattle.float.specs.Consts.{k1};
-ghost use Rattle.float.specs.Floats.{absOf, signumOf, minOf, max_of, clampOf, fractOf, remEuclidOf, to24Of};
+ghost use Rattle.float.specs.Floats.{abs_of, signum_of, min_of, max_of, clamp_of, fract_of, rem_euclid_of, to24_of};
 
 #[unsafe(no_mangle)]
 pub extern "C" fn rytm_abs(x: f32) -> f32
-    ensures { result ≡ absOf x }
+    ensures { result ≡ abs_of x }
 {
     float::abs(x)
 }
 
 #[unsafe(no_mangle)]
 pub extern "C" fn rytm_signum(x: f32) -> f32
-    ensures { result ≡ signumOf x }
+    ensures { result ≡ signum_of x }
 {
     float::signum(x)
 }
 
 #[unsafe(no_mangle)]
 pub extern "C" fn rytm_min(a: f32, b: f32) -> f32
-    ensures { result ≡ minOf a b }
+    ensures { result ≡ min_of a b }
 {
     float::min(a, b)
 }
@@ -36,7 +36,7 @@ pub extern "C" fn rytm_max(a: f32, b: f32) -> f32
 
 #[unsafe(no_mangle)]
 pub extern "C" fn rytm_clamp(x: f32, lo: f32, hi: f32) -> f32
-    ensures { result ≡ clampOf x lo hi }
+    ensures { result ≡ clamp_of x lo hi }
 {
     float::clamp(x, lo, hi)
 }
@@ -50,14 +50,14 @@ pub extern "C" fn rytm_is_finite(x: f32) -> bool
 
 #[unsafe(no_mangle)]
 pub extern "C" fn rytm_fract(x: f32) -> f32
-    ensures { result ≡ fractOf x }
+    ensures { result ≡ fract_of x }
 {
     float::fract(x)
 }
 
 #[unsafe(no_mangle)]
 pub extern "C" fn rytm_rem_euclid_one(x: f32) -> f32
-    ensures { result ≡ remEuclidOf x k1 }
+    ensures { result ≡ rem_euclid_of x k1 }
 {
     float::rem_euclid_one(x)
 }
@@ -85,7 +85,7 @@ pub extern "C" fn rytm_to_i32(y: f32) -> i32
 
 #[unsafe(no_mangle)]
 pub extern "C" fn rytm_to24(x: f32) -> i32
-    ensures { result ≡ to24Of x }
+    ensures { result ≡ to24_of x }
 {
     float::to24(x)
 }

@@ -12,17 +12,17 @@ word_in f h o = omega (arith, h o, h (o + 1))
 pub field_in : (f : List ℕ) → Bytes f → (o : ℕ) → field_at f o < 2 ^ 22
 field_in f h o = omega (arith, h (o + 2), h (o + 3))
 
-pub bytes-in : (f : List ℕ) → Bytes f → (o : ℕ) → Bytes (bytes_at f o)
+pub bytes_in : (f : List ℕ) → Bytes f → (o : ℕ) → Bytes (bytes_at f o)
 unfolding bytes_at
-bytes-in f h o zero = h o
-bytes-in f h o (suc zero) = h (o + 1)
-bytes-in f h o (suc (suc zero)) = h (o + 2)
-bytes-in f h o (suc (suc (suc zero))) = h (o + 3)
-bytes-in f h o (suc (suc (suc (suc zero)))) = h (o + 4)
-bytes-in f h o (suc (suc (suc (suc (suc zero))))) = h (o + 5)
-bytes-in f h o (suc (suc (suc (suc (suc (suc zero)))))) = h (o + 6)
-bytes-in f h o (suc (suc (suc (suc (suc (suc (suc zero))))))) = h (o + 7)
-bytes-in f h o (suc (suc (suc (suc (suc (suc (suc (suc i)))))))) = none i
+bytes_in f h o zero = h o
+bytes_in f h o (suc zero) = h (o + 1)
+bytes_in f h o (suc (suc zero)) = h (o + 2)
+bytes_in f h o (suc (suc (suc zero))) = h (o + 3)
+bytes_in f h o (suc (suc (suc (suc zero)))) = h (o + 4)
+bytes_in f h o (suc (suc (suc (suc (suc zero))))) = h (o + 5)
+bytes_in f h o (suc (suc (suc (suc (suc (suc zero)))))) = h (o + 6)
+bytes_in f h o (suc (suc (suc (suc (suc (suc (suc zero))))))) = h (o + 7)
+bytes_in f h o (suc (suc (suc (suc (suc (suc (suc (suc i)))))))) = none i
   where
     none : (i : ℕ) → get_or [] i 0 < 256
     none zero = omega arith

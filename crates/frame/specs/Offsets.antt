@@ -8,19 +8,19 @@ use Rattle.frame.specs.declared.CymPath.{CymPath}
 use Rattle.frame.specs.declared.FltAt.{FltAt}
 
 -- what a step reads of a frame: "frame under 664 bytes" is refused
-abbrev pub FRAME-BYTES : ℕ
-FRAME-BYTES = 664
+abbrev pub FRAME_BYTES : ℕ
+FRAME_BYTES = 664
 
 -- "distortion from word 0"
 abbrev pub DIST : ℕ
 DIST = 0
 
 -- "the VCA word at 10+2v (left), 26+2v (right)"
-abbrev pub VCA-L : ℕ
-VCA-L = 10
+abbrev pub VCA_L : ℕ
+VCA_L = 10
 
-abbrev pub VCA-R : ℕ
-VCA-R = 26
+abbrev pub VCA_R : ℕ
+VCA_R = 26
 
 -- voice v's overdrive, a word at 42 + 2v
 abbrev pub OVR : ℕ
@@ -35,18 +35,18 @@ abbrev pub RES : ℕ
 RES = 74
 
 -- the hat's colour, a signed word, and its VCA
-abbrev pub HAT-COLOUR : ℕ
-HAT-COLOUR = 130
+abbrev pub HAT_COLOUR : ℕ
+HAT_COLOUR = 130
 
-abbrev pub HAT-VCA : ℕ
-HAT-VCA = 140
+abbrev pub HAT_VCA : ℕ
+HAT_VCA = 140
 
 -- the cymbal's colour, a signed word, and its VCA
-abbrev pub CYM-COLOUR : ℕ
-CYM-COLOUR = 142
+abbrev pub CYM_COLOUR : ℕ
+CYM_COLOUR = 142
 
-abbrev pub CYM-VCA : ℕ
-CYM-VCA = 158
+abbrev pub CYM_VCA : ℕ
+CYM_VCA = 158
 
 -- "Switch n is bit n mod 8 of byte 160 + n div 8"
 abbrev pub SWITCHES : ℕ
@@ -57,44 +57,44 @@ abbrev pub ROUTE : ℕ
 ROUTE = 166
 
 -- "Chain amp (168+8v)"
-abbrev pub AMP-ENV : ℕ
-AMP-ENV = 168
+abbrev pub AMP_ENV : ℕ
+AMP_ENV = 168
 
 -- "Chain filter (296+8v)"; the record's first word, signed, is the envelope's depth
-abbrev pub FLT-ENV : ℕ
-FLT-ENV = 296
+abbrev pub FLT_ENV : ℕ
+FLT_ENV = 296
 
 -- "Hat (record at 488)"
-abbrev pub HAT-ENV : ℕ
-HAT-ENV = 488
+abbrev pub HAT_ENV : ℕ
+HAT_ENV = 488
 
 -- "cymbal (eight from 496)"
-abbrev pub CYM-ENV : ℕ
-CYM-ENV = 496
+abbrev pub CYM_ENV : ℕ
+CYM_ENV = 496
 
 -- the oscillator banks of hat and cymbal, six fields of four bytes
-abbrev pub HAT-BANK : ℕ
-HAT-BANK = 616
+abbrev pub HAT_BANK : ℕ
+HAT_BANK = 616
 
-abbrev pub CYM-BANK : ℕ
-CYM-BANK = 640
+abbrev pub CYM_BANK : ℕ
+CYM_BANK = 640
 
 -- the voices that hat and cymbal are
-abbrev pub HAT-VOICE : ℕ
-HAT-VOICE = 4
+abbrev pub HAT_VOICE : ℕ
+HAT_VOICE = 4
 
-abbrev pub CYM-VOICE : ℕ
-CYM-VOICE = 6
+abbrev pub CYM_VOICE : ℕ
+CYM_VOICE = 6
 
 -- a dual voice's records: of its four the first is the pitch's, the third the amplitude's, the fourth oscillator 2's amplitude's
-abbrev pub PITCH-REC : ℕ
-PITCH-REC = 0
+abbrev pub PITCH_REC : ℕ
+PITCH_REC = 0
 
-abbrev pub AMP-REC : ℕ
-AMP-REC = 2
+abbrev pub AMP_REC : ℕ
+AMP_REC = 2
 
-abbrev pub AMP2-REC : ℕ
-AMP2-REC = 3
+abbrev pub AMP2_REC : ℕ
+AMP2_REC = 3
 
 -- BD, SD and RS, as the source has them; a number past the end means the last
 unfoldable pub duals : List DualSpec
@@ -104,8 +104,8 @@ duals =
     ∷ record { voice = 7; cv = 106; env = 424; sw = 28 ∷ 4 ∷ 24 ∷ 7 ∷ 6 ∷ 5 ∷ 60 ∷ [] }
     ∷ []
 
-unfoldable pub dualSpec : ℕ → DualSpec
-dualSpec d = get_or duals (min d 2) (record { voice = 0; cv = 0; env = 0; sw = [] })
+unfoldable pub dual_spec : ℕ → DualSpec
+dual_spec d = get_or duals (min d 2) (record { voice = 0; cv = 0; env = 0; sw = [] })
 
 -- toms 1, 3 and 5
 unfoldable pub toms : List TomSpec
@@ -115,12 +115,12 @@ toms =
     ∷ record { voice = 5; tune = 126; decay = 128; dac = 10 }
     ∷ []
 
-unfoldable pub tomSpec : ℕ → TomSpec
-tomSpec t = get_or toms (min t 2) (record { voice = 0; tune = 0; decay = 0; dac = 0 })
+unfoldable pub tom_spec : ℕ → TomSpec
+tom_spec t = get_or toms (min t 2) (record { voice = 0; tune = 0; decay = 0; dac = 0 })
 
 -- the cymbal's paths: 3400, 7000, 9000, 1200 and 6000 Hz
-unfoldable pub cymPaths : List CymPath
-cymPaths =
+unfoldable pub cym_paths : List CymPath
+cym_paths =
     record { rec = 2; hz = of_bits binary32 0x45548000; high = false }
     ∷ record { rec = 3; hz = of_bits binary32 0x45dac000; high = false }
     ∷ record { rec = 4; hz = of_bits binary32 0x460ca000; high = true }
@@ -128,12 +128,12 @@ cymPaths =
     ∷ record { rec = 7; hz = of_bits binary32 0x45bb8000; high = true }
     ∷ []
 
-unfoldable pub cymPath : ℕ → CymPath
-cymPath p = get_or cymPaths (min p 4) (record { rec = 0; hz = nan; high = false })
+unfoldable pub cym_path : ℕ → CymPath
+cym_path p = get_or cym_paths (min p 4) (record { rec = 0; hz = nan; high = false })
 
 -- each voice's filter type
-unfoldable pub fltTypeAt : List FltAt
-fltTypeAt =
+unfoldable pub flt_type_at : List FltAt
+flt_type_at =
     record { byte = 161; lo = 1 }
     ∷ record { byte = 161; lo = 5 }
     ∷ record { byte = 164; lo = 5 }
@@ -144,12 +144,12 @@ fltTypeAt =
     ∷ record { byte = 163; lo = 1 }
     ∷ []
 
-unfoldable pub fltAt : ℕ → FltAt
-fltAt v = get_or fltTypeAt (min v 7) (record { byte = 0; lo = 0 })
+unfoldable pub flt_at : ℕ → FltAt
+flt_at v = get_or flt_type_at (min v 7) (record { byte = 0; lo = 0 })
 
 -- "bits 3, 2, 1, 0, 4, 5, 6, 7 belong to voices 0 to 7"
-unfoldable pub routeBits : List ℕ
-routeBits = 3 ∷ 2 ∷ 1 ∷ 0 ∷ 4 ∷ 5 ∷ 6 ∷ 7 ∷ []
+unfoldable pub route_bits : List ℕ
+route_bits = 3 ∷ 2 ∷ 1 ∷ 0 ∷ 4 ∷ 5 ∷ 6 ∷ 7 ∷ []
 
-unfoldable pub routeBit : ℕ → ℕ
-routeBit v = get_or routeBits (min v 7) 0
+unfoldable pub route_bit : ℕ → ℕ
+route_bit v = get_or route_bits (min v 7) 0

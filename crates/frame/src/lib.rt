@@ -1,7 +1,7 @@
 // Fields of the control frame: words, switches, the route mask, filter codes, a record's bytes, and where each voice has its own.
 ghost use Rattle.std.specs.Prelude.{◌≡◌, ◌+◌, ◌*◌, ◌/◌, ◌<◌, ◌≤◌, length};
-ghost use Rattle.frame.specs.Frame.{word_at, wordF, signed_of, signedF, bit_at, field_at, bytes_at, routedOff, fltCode, fltTypeOf};
-ghost use Rattle.frame.specs.Offsets.{FRAME-BYTES, SWITCHES, dualSpec, tomSpec, cymPath, fltAt, routeBit};
+ghost use Rattle.frame.specs.Frame.{word_at, word_f, signed_of, signed_f, bit_at, field_at, bytes_at, routed_off, flt_code, flt_type_of};
+ghost use Rattle.frame.specs.Offsets.{FRAME_BYTES, SWITCHES, dual_spec, tom_spec, cym_path, flt_at, route_bit};
 
 // Where the frame has its fields, under the source's names. A voice v has its word at 2 * v and its record at 8 * v from there.
 
@@ -177,7 +177,7 @@ const ROUTE_BIT: [u8; 8] = [3, 2, 1, 0, 4, 5, 6, 7];
 
 // BD, SD, and RS from 2 on.
 pub fn dual_spec(d: usize) -> DualSpec
-    ensures { result ≡ dualSpec d }
+    ensures { result ≡ dual_spec d }
 {
     match d {
         0 => DUALS[0],
@@ -188,7 +188,7 @@ pub fn dual_spec(d: usize) -> DualSpec
 
 // BT, LT, and MT/HT from 2 on.
 pub fn tom_spec(t: usize) -> TomSpec
-    ensures { result ≡ tomSpec t }
+    ensures { result ≡ tom_spec t }
 {
     match t {
         0 => TOMS[0],
@@ -198,7 +198,7 @@ pub fn tom_spec(t: usize) -> TomSpec
 }
 
 pub fn cym_path(p: usize) -> CymPath
-    ensures { result ≡ cymPath p }
+    ensures { result ≡ cym_path p }
 {
     match p {
         0 => CYM_PATHS[0],
@@ -210,7 +210,7 @@ pub fn cym_path(p: usize) -> CymPath
 }
 
 fn flt_at(v: usize) -> FltAt
-    ensures { result ≡ fltAt v }
+    ensures { result ≡ flt_at v }
 {
     match v {
         0 => FLT_TYPE_AT[0],
@@ -225,7 +225,7 @@ fn flt_at(v: usize) -> FltAt
 }
 
 fn route_bit(v: usize) -> u8
-    ensures { result ≡ routeBit v }
+    ensures { result ≡ route_bit v }
 {
     match v {
         0 => ROUTE_BIT[0],
@@ -263,7 +263,7 @@ pub fn word(f: &[u8], o: usize) -> u16
 // `word(f, o) as f32`.
 pub fn word_f32(f: &[u8], o: usize) -> f32
     requires { o + 2 ≤ length f.now }
-    ensures { result ≡ wordF f.now o }
+    ensures { result ≡ word_f f.now o }
 {
     word(f, o) as f32
 }
@@ -282,7 +282,7 @@ pub fn signed(w: u16) -> i16
 // `word(f, o) as i16 as f32`.
 pub fn signed_f32(f: &[u8], o: usize) -> f32
     requires { o + 2 ≤ length f.now }
-    ensures { result ≡ signedF f.now o }
+    ensures { result ≡ signed_f f.now o }
 {
     signed(word(f, o)) as f32
 }
@@ -325,8 +325,8 @@ pub fn bytes(f: &[u8], o: usize) -> [u8; 8]
 
 // Whether voice v is kept from the main bus.
 pub fn routed_off(f: &[u8], v: usize) -> bool
-    requires { FRAME-BYTES ≤ length f.now }
-    ensures { result ≡ routedOff f.now v }
+    requires { FRAME_BYTES ≤ length f.now }
+    ensures { result ≡ routed_off f.now v }
 {
     let s = route_bit(v);
     (f[ROUTE] >> s) & 1 != 0
@@ -334,8 +334,8 @@ pub fn routed_off(f: &[u8], v: usize) -> bool
 
 // Voice v's filter code, 0 to 7.
 pub fn flt_code(f: &[u8], v: usize) -> u8
-    requires { FRAME-BYTES ≤ length f.now }
-    ensures { result ≡ fltCode f.now v }
+    requires { FRAME_BYTES ≤ length f.now }
+    ensures { result ≡ flt_code f.now v }
 {
     let a = flt_at(v);
     let k = a.byte;
@@ -356,7 +356,7 @@ pub enum FltType {
 
 impl FltType {
     pub fn from_code(code: u8) -> FltType
-        ensures { result ≡ fltTypeOf code }
+        ensures { result ≡ flt_type_of code }
     {
         match code {
             6 => FltType::Lp1,

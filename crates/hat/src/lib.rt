@@ -1,7 +1,7 @@
 // The hihat: the metal bank through a high-pass, under one envelope.
 ghost use Rattle.std.specs.Prelude.{◌≡◌, Bool, ◌≤◌, length};
-ghost use Rattle.frame.specs.Offsets.{FRAME-BYTES};
-ghost use Rattle.hat.specs.Hat.{hatNew, colourOf, soundOf, sampleOf};
+ghost use Rattle.frame.specs.Offsets.{FRAME_BYTES};
+ghost use Rattle.hat.specs.Hat.{hat_new, colour_of, sound_of, sample_of};
 
 use envelope::Env;
 use metal::Svf;
@@ -27,8 +27,8 @@ pub struct HatOut {
 
 // The colour's cutoff as the filter's coefficient.
 fn colour(f: &[u8]) -> f32
-    requires { FRAME-BYTES ≤ length f.now }
-    ensures { result ≡ colourOf f.now }
+    requires { FRAME_BYTES ≤ length f.now }
+    ensures { result ≡ colour_of f.now }
 {
     let c = frame::signed_f32(f, frame::HAT_COLOUR) / 32768.0;
     let fc = float::clamp(6000.0 * power::exp2(1.5 * c), 500.0, 16000.0);
@@ -37,7 +37,7 @@ fn colour(f: &[u8]) -> f32
 
 impl Hat {
     pub fn new() -> Hat
-        ensures { result ≡ hatNew }
+        ensures { result ≡ hat_new }
     {
         Hat {
             ph: [0.0; 6],
@@ -53,8 +53,8 @@ impl Hat {
 
     // The bank through the high-pass, of a hat that sounds.
     fn sound(self, f: &[u8], w: Wobble) -> HatOut
-        requires { FRAME-BYTES ≤ length f.now }
-        ensures { result ≡ soundOf f.now self w }
+        requires { FRAME_BYTES ≤ length f.now }
+        ensures { result ≡ sound_of f.now self w }
     {
         let ph = self.ph;
         let det = self.det;
@@ -79,8 +79,8 @@ impl Hat {
     }
 
     pub fn sample(self, f: &[u8], w: Wobble) -> HatOut
-        requires { FRAME-BYTES ≤ length f.now }
-        ensures { result ≡ sampleOf f.now self w }
+        requires { FRAME_BYTES ≤ length f.now }
+        ensures { result ≡ sample_of f.now self w }
     {
         let r = frame::bytes(f, frame::HAT_ENV);
         let mode = envelope::mode_of(r);

@@ -3,11 +3,11 @@ use mathlib.Core.Path.{◌≡◌, refl}
 use mathlib.Core.Bool.{Bool, true, false, ◌||◌}
 use lib.Dec.{T}
 
-pub bool-ext : (a b : Bool) → (T a → T b) → (T b → T a) → a ≡ b
-bool-ext true true h k = refl
-bool-ext false false h k = refl
-bool-ext true false h k = absurd (h tt)
-bool-ext false true h k = absurd (k tt)
+pub bool_ext : (a b : Bool) → (T a → T b) → (T b → T a) → a ≡ b
+bool_ext true true h k = refl
+bool_ext false false h k = refl
+bool_ext true false h k = absurd (h tt)
+bool_ext false true h k = absurd (k tt)
 
 pub or_l : (a b : Bool) → T a → T (a || b)
 or_l true b t = tt
@@ -17,6 +17,6 @@ pub or_r : (a b : Bool) → T b → T (a || b)
 or_r true b t = tt
 or_r false b t = t
 
-pub or-e : {A : Type 0} (a b : Bool) → (T a → A) → (T b → A) → T (a || b) → A
-or-e true b h k t = h tt
-or-e false b h k t = k t
+pub or_e : {A : Type 0} (a b : Bool) → (T a → A) → (T b → A) → T (a || b) → A
+or_e true b h k t = h tt
+or_e false b h k t = k t

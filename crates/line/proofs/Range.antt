@@ -11,10 +11,10 @@ use lib.Ieee.{mul, div, Float, fin, Format, binary32, neg, add, le, lt, eq, fits
 use lib.Ieee.Fits.{and_i, and_l, and_r, add-fits, mul-fits, div-fits}
 use lib.Ieee.Scale.{finite}
 use lib.Ieee.Positive.{positive}
-use Rattle.line.proofs.Bools.{or_l, or-e}
+use Rattle.line.proofs.Bools.{or_l, or_e}
 use Rattle.line.proofs.Units.{Is}
-use Rattle.line.proofs.Rounds.{sign, fits-sized, finite-between}
-use Rattle.line.proofs.Mono.{Good, under-minus, under-plus, under→le, add-le, neg-le, neg-good, mul-up, mul-down, mul-swap, div-le, le-trans-good, nlt→le}
+use Rattle.line.proofs.Rounds.{sign, fits_sized, finite_between}
+use Rattle.line.proofs.Mono.{Good, under_minus, under_plus, under→le, add_le, neg_le, neg_good, mul_up, mul_down, mul_swap, div_le, le_trans_good, nlt→le}
 
 pub record In (f : Format) (lo hi x : Float) : Type 0 where
   pub low : Good f lo
@@ -39,62 +39,62 @@ good_of f x t = (and_l (fits f x) (finite x) t, and_r (fits f x) (finite x) t)
 -- z lies between u and v, which lie within the ends
 pub between : (f : Format) (lo hi u v z : Float) → Good f lo → Good f hi → T (fits f u) → T (fits f v) → T (fits f z) → T (inside lo hi u) → T (inside lo hi v) → T (le u z) → T (le z v) → In f lo hi z
 between f lo hi u v z a b fu fv fz i j l m =
-    let gu : Good f u = (fu, finite-between lo u hi a.1 b.1 (and_l (le lo u) (le u hi) i) (and_r (le lo u) (le u hi) i)) in
-    let gv : Good f v = (fv, finite-between lo v hi a.1 b.1 (and_l (le lo v) (le v hi) j) (and_r (le lo v) (le v hi) j)) in
-    let gz : Good f z = (fz, finite-between u z v gu.1 gv.1 l m) in
+    let gu : Good f u = (fu, finite_between lo u hi a.1 b.1 (and_l (le lo u) (le u hi) i) (and_r (le lo u) (le u hi) i)) in
+    let gv : Good f v = (fv, finite_between lo v hi a.1 b.1 (and_l (le lo v) (le v hi) j) (and_r (le lo v) (le v hi) j)) in
+    let gz : Good f z = (fz, finite_between u z v gu.1 gv.1 l m) in
     record {
       low = a;
       high = b;
       ok = gz;
-      from = le-trans-good f lo u z a gu gz (and_l (le lo u) (le u hi) i) l;
-      upto = le-trans-good f z v hi gz gv b m (and_r (le lo v) (le v hi) j);
+      from = le_trans_good f lo u z a gu gz (and_l (le lo u) (le u hi) i) l;
+      upto = le_trans_good f z v hi gz gv b m (and_r (le lo v) (le v hi) j);
     }
 
-pub in-self : (f : Format) (x : Float) → T (good f x && le x x) → In f x x x
-in-self f x t = let g = good_of f x (and_l (good f x) (le x x) t) in record { low = g; high = g; ok = g; from = and_r (good f x) (le x x) t; upto = and_r (good f x) (le x x) t }
+pub in_self : (f : Format) (x : Float) → T (good f x && le x x) → In f x x x
+in_self f x t = let g = good_of f x (and_l (good f x) (le x x) t) in record { low = g; high = g; ok = g; from = and_r (good f x) (le x x) t; upto = and_r (good f x) (le x x) t }
 
 -- from the bare facts
-pub in-of : (f : Format) (lo hi x : Float) → T (ends f lo hi) → T (fits f x) → T (le lo x) → T (le x hi) → In f lo hi x
-in-of f lo hi x t h a b =
+pub in_of : (f : Format) (lo hi x : Float) → T (ends f lo hi) → T (fits f x) → T (le lo x) → T (le x hi) → In f lo hi x
+in_of f lo hi x t h a b =
     let l = good_of f lo (and_l (good f lo) (good f hi) t) in
     let u = good_of f hi (and_r (good f lo) (good f hi) t) in
-    record { low = l; high = u; ok = (h, finite-between lo x hi l.1 u.1 a b); from = a; upto = b }
+    record { low = l; high = u; ok = (h, finite_between lo x hi l.1 u.1 a b); from = a; upto = b }
 
 module _ (f : Format) (lo hi : Float) where
   -- a wider range
-  abbrev pub wideT : Float → Float → Bool
-  wideT a b = ends f lo hi && (inside lo hi a && inside lo hi b)
+  abbrev pub wide_t : Float → Float → Bool
+  wide_t a b = ends f lo hi && (inside lo hi a && inside lo hi b)
 
-  pub in-wide : {a b x : Float} → In f a b x → T (wideT a b) → In f lo hi x
-  in-wide {a} {b} {x} h t =
+  pub in_wide : {a b x : Float} → In f a b x → T (wide_t a b) → In f lo hi x
+  in_wide {a} {b} {x} h t =
       let e = and_l (ends f lo hi) (inside lo hi a && inside lo hi b) t in
       let k = and_r (ends f lo hi) (inside lo hi a && inside lo hi b) t in
       between f lo hi a b x (good_of f lo (and_l (good f lo) (good f hi) e)) (good_of f hi (and_r (good f lo) (good f hi) e)) h.low.0 h.high.0 h.ok.0
       (and_l (inside lo hi a) (inside lo hi b) k) (and_r (inside lo hi a) (inside lo hi b) k) h.from h.upto
 
-  pub in-cond : {x y : Float} → (b : Bool) → (T b → In f lo hi x) → (T (not b) → In f lo hi y) → In f lo hi (cond b x y)
-  in-cond true h k = h tt
-  in-cond false h k = k tt
+  pub in_cond : {x y : Float} → (b : Bool) → (T b → In f lo hi x) → (T (not b) → In f lo hi y) → In f lo hi (cond b x y)
+  in_cond true h k = h tt
+  in_cond false h k = k tt
 
   -- the sum and the difference
-  abbrev pub addT : Float → Float → Float → Float → Bool
-  addT a b c d = ends f lo hi && (inside lo hi (add f a c) && inside lo hi (add f b d))
+  abbrev pub add_t : Float → Float → Float → Float → Bool
+  add_t a b c d = ends f lo hi && (inside lo hi (add f a c) && inside lo hi (add f b d))
 
-  pub in-add : {a b c d x y : Float} → In f a b x → In f c d y → T (addT a b c d) → In f lo hi (add f x y)
-  in-add {a} {b} {c} {d} {x} {y} h k t =
+  pub in_add : {a b c d x y : Float} → In f a b x → In f c d y → T (add_t a b c d) → In f lo hi (add f x y)
+  in_add {a} {b} {c} {d} {x} {y} h k t =
       let e = and_l (ends f lo hi) (inside lo hi (add f a c) && inside lo hi (add f b d)) t in
       let i = and_r (ends f lo hi) (inside lo hi (add f a c) && inside lo hi (add f b d)) t in
       between f lo hi (add f a c) (add f b d) (add f x y) (good_of f lo (and_l (good f lo) (good f hi) e)) (good_of f hi (and_r (good f lo) (good f hi) e)) (add-fits f a c) (add-fits f b d) (add-fits f x y)
       (and_l (inside lo hi (add f a c)) (inside lo hi (add f b d)) i) (and_r (inside lo hi (add f a c)) (inside lo hi (add f b d)) i)
-      (add-le f a c x y h.low k.low h.ok k.ok h.from k.from) (add-le f x y b d h.ok k.ok h.high k.high h.upto k.upto)
+      (add_le f a c x y h.low k.low h.ok k.ok h.from k.from) (add_le f x y b d h.ok k.ok h.high k.high h.upto k.upto)
 
-  pub in-neg : {a b x : Float} → In f a b x → T (wideT (neg a) (neg b)) → In f lo hi (neg x)
-  in-neg {a} {b} {x} h t =
+  pub in_neg : {a b x : Float} → In f a b x → T (wide_t (neg a) (neg b)) → In f lo hi (neg x)
+  in_neg {a} {b} {x} h t =
       let e = and_l (ends f lo hi) (inside lo hi (neg a) && inside lo hi (neg b)) t in
       let i = and_r (ends f lo hi) (inside lo hi (neg a) && inside lo hi (neg b)) t in
-      between f lo hi (neg b) (neg a) (neg x) (good_of f lo (and_l (good f lo) (good f hi) e)) (good_of f hi (and_r (good f lo) (good f hi) e)) (neg-good f b h.high).0 (neg-good f a h.low).0 (neg-good f x h.ok).0
+      between f lo hi (neg b) (neg a) (neg x) (good_of f lo (and_l (good f lo) (good f hi) e)) (good_of f hi (and_r (good f lo) (good f hi) e)) (neg_good f b h.high).0 (neg_good f a h.low).0 (neg_good f x h.ok).0
       (and_r (inside lo hi (neg a)) (inside lo hi (neg b)) i) (and_l (inside lo hi (neg a)) (inside lo hi (neg b)) i)
-      (neg-le f x b h.ok h.high h.upto) (neg-le f a x h.low h.ok h.from)
+      (neg_le f x b h.ok h.high h.upto) (neg_le f a x h.low h.ok h.from)
 
   -- the product: the four corners lie within the ends
   along : {a b x : Float} (y : Float) → In f a b x → Good f lo → Good f hi → Good f y → T (inside lo hi (mul f a y)) → T (inside lo hi (mul f b y)) → T (inside lo hi (mul f x y))
@@ -104,17 +104,17 @@ module _ (f : Format) (lo hi : Float) where
       done r = and_i (le lo (mul f x y)) (le (mul f x y) hi) r.from r.upto
 
       go : (t : Bool) → sign y ≡ t → T (inside lo hi (mul f x y))
-      go false e = done (between f lo hi (mul f a y) (mul f b y) (mul f x y) L H (mul-fits f a y) (mul-fits f b y) (mul-fits f x y) i j (mul-up f a x y h.low h.ok g e h.from) (mul-up f x b y h.ok h.high g e h.upto))
-      go true e = done (between f lo hi (mul f b y) (mul f a y) (mul f x y) L H (mul-fits f b y) (mul-fits f a y) (mul-fits f x y) j i (mul-down f x b y h.ok h.high g e h.upto) (mul-down f a x y h.low h.ok g e h.from))
+      go false e = done (between f lo hi (mul f a y) (mul f b y) (mul f x y) L H (mul-fits f a y) (mul-fits f b y) (mul-fits f x y) i j (mul_up f a x y h.low h.ok g e h.from) (mul_up f x b y h.ok h.high g e h.upto))
+      go true e = done (between f lo hi (mul f b y) (mul f a y) (mul f x y) L H (mul-fits f b y) (mul-fits f a y) (mul-fits f x y) j i (mul_down f x b y h.ok h.high g e h.upto) (mul_down f a x y h.low h.ok g e h.from))
 
   swap : (x y : Float) → Good f x → Good f y → T (inside lo hi (mul f x y)) → T (inside lo hi (mul f y x))
-  swap x y g h t = subst (λ (z : Float). T (inside lo hi z)) (mul-swap f x y g h) t
+  swap x y g h t = subst (λ (z : Float). T (inside lo hi z)) (mul_swap f x y g h) t
 
-  abbrev pub mulT : Float → Float → Float → Float → Bool
-  mulT a b c d = ends f lo hi && ((inside lo hi (mul f a c) && inside lo hi (mul f a d)) && (inside lo hi (mul f b c) && inside lo hi (mul f b d)))
+  abbrev pub mul_t : Float → Float → Float → Float → Bool
+  mul_t a b c d = ends f lo hi && ((inside lo hi (mul f a c) && inside lo hi (mul f a d)) && (inside lo hi (mul f b c) && inside lo hi (mul f b d)))
 
-  pub in-mul : {a b c d x y : Float} → In f a b x → In f c d y → T (mulT a b c d) → In f lo hi (mul f x y)
-  in-mul {a} {b} {c} {d} {x} {y} h k t =
+  pub in_mul : {a b c d x y : Float} → In f a b x → In f c d y → T (mul_t a b c d) → In f lo hi (mul f x y)
+  in_mul {a} {b} {c} {d} {x} {y} h k t =
       let ac = inside lo hi (mul f a c) in
       let ad = inside lo hi (mul f a d) in
       let bc = inside lo hi (mul f b c) in
@@ -130,27 +130,27 @@ module _ (f : Format) (lo hi : Float) where
       let v = along y h L H k.ok r s in
       let from = and_l (le lo (mul f x y)) (le (mul f x y) hi) v in
       let upto = and_r (le lo (mul f x y)) (le (mul f x y) hi) v in
-      record { low = L; high = H; ok = (mul-fits f x y, finite-between lo (mul f x y) hi L.1 H.1 from upto); from = from; upto = upto }
+      record { low = L; high = H; ok = (mul-fits f x y, finite_between lo (mul f x y) hi L.1 H.1 from upto); from = from; upto = upto }
 
   -- the quotient by a constant above zero
-  abbrev pub divT : Float → Float → Float → Bool
-  divT a b c = (good f c && positive c) && wideT (div f a c) (div f b c)
+  abbrev pub div_t : Float → Float → Float → Bool
+  div_t a b c = (good f c && positive c) && wide_t (div f a c) (div f b c)
 
-  pub in-div : {a b x : Float} → In f a b x → (c : Float) → T (divT a b c) → In f lo hi (div f x c)
-  in-div {a} {b} {x} h c t =
-      let g = and_l (good f c && positive c) (wideT (div f a c) (div f b c)) t in
-      let w = and_r (good f c && positive c) (wideT (div f a c) (div f b c)) t in
+  pub in_div : {a b x : Float} → In f a b x → (c : Float) → T (div_t a b c) → In f lo hi (div f x c)
+  in_div {a} {b} {x} h c t =
+      let g = and_l (good f c && positive c) (wide_t (div f a c) (div f b c)) t in
+      let w = and_r (good f c && positive c) (wide_t (div f a c) (div f b c)) t in
       let e = and_l (ends f lo hi) (inside lo hi (div f a c) && inside lo hi (div f b c)) w in
       let i = and_r (ends f lo hi) (inside lo hi (div f a c) && inside lo hi (div f b c)) w in
       let C = good_of f c (and_l (good f c) (positive c) g) in
       let P = and_r (good f c) (positive c) g in
       between f lo hi (div f a c) (div f b c) (div f x c) (good_of f lo (and_l (good f lo) (good f hi) e)) (good_of f hi (and_r (good f lo) (good f hi) e)) (div-fits f a c) (div-fits f b c) (div-fits f x c)
       (and_l (inside lo hi (div f a c)) (inside lo hi (div f b c)) i) (and_r (inside lo hi (div f a c)) (inside lo hi (div f b c)) i)
-      (div-le f a x c h.low h.ok C P h.from) (div-le f x b c h.ok h.high C P h.upto)
+      (div_le f a x c h.low h.ok C P h.from) (div_le f x b c h.ok h.high C P h.upto)
 
 -- ---- a test in the program cuts a range
-pub not-lt : (f : Format) (x y : Float) → Good f x → Good f y → T (not (lt y x)) → T (le x y)
-not-lt f x y g h t = nlt→le f x y g h t
+pub not_lt : (f : Format) (x y : Float) → Good f x → Good f y → T (not (lt y x)) → T (le x y)
+not_lt f x y g h t = nlt→le f x y g h t
 
 pub cut_high : {f : Format} {a b x : Float} → In f a b x → (c : Float) → T (good f c) → T (le x c) → In f a c x
 cut_high {f} {a} {b} {x} h c g l = record { low = h.low; high = good_of f c g; ok = h.ok; from = h.from; upto = l }
@@ -164,11 +164,11 @@ lt→le x y t = or_l (lt x y) (eq x y) t
 
 pub le→lt : (x y : Float) → T (le x y) → eq x y ≡ false → T (lt x y)
 unfolding le
-le→lt x y t e = or-e (lt x y) (eq x y) (λ h. h) (λ h. absurd (subst T e h)) t
+le→lt x y t e = or_e (lt x y) (eq x y) (λ h. h) (λ h. absurd (subst T e h)) t
 
 -- a range in two
 pub split : {f : Format} {a b x : Float} {P : Type 0} → In f a b x → (c : Float) → T (good f c) → (In f a c x → P) → (In f c b x → P) → P
-split {f} {a} {b} {x} {P} h c g p q = go (lt c x) (lt→le c x) (not-lt f x c h.ok (good_of f c g))
+split {f} {a} {b} {x} {P} h c g p q = go (lt c x) (lt→le c x) (not_lt f x c h.ok (good_of f c g))
   where
     go : (t : Bool) → (T t → T (le c x)) → (T (not t) → T (le x c)) → P
     go true i j = q (cut_low h c g (i tt))
@@ -179,8 +179,8 @@ abbrev pub largest : Float
 largest = fin false 16777215 (pos 104)
 
 -- a number of smallest values that the format holds, P the largest's last place
-up-to-largest : (m a j k P : ℕ) → a < 16777216 → m ≡ a * 2 ^ j → m < 16777216 * P → P ≡ 2 ^ k → m ≤ 16777215 * P
-up-to-largest m a j k P few is fine p = go (ltb k j) (ltb→lt k j) (nltb→le k j)
+up_to_largest : (m a j k P : ℕ) → a < 16777216 → m ≡ a * 2 ^ j → m < 16777216 * P → P ≡ 2 ^ k → m ≤ 16777215 * P
+up_to_largest m a j k P few is fine p = go (ltb k j) (ltb→lt k j) (nltb→le k j)
   where
     go : (b : Bool) → (T b → k < j) → (T (not b) → j ≤ k) → m ≤ 16777215 * P
     go true h i =
@@ -193,19 +193,19 @@ up-to-largest m a j k P few is fine p = go (ltb k j) (ltb→lt k j) (nltb→le k
         back h = omega arith
     go false h i = subst (λ (z : ℕ). z ≤ 16777215 * P) (sym is) (mul-le-mul (omega arith) (subst (λ (z : ℕ). 2 ^ j ≤ z) (sym p) (pow_mono (i tt))))
 
-largest-is : (s : Bool) → Is binary32 (fin s 16777215 (pos 104)) s (16777215 * 2 ^ 253)
-largest-is s = (refl, refl)
+largest_is : (s : Bool) → Is binary32 (fin s 16777215 (pos 104)) s (16777215 * 2 ^ 253)
+largest_is s = (refl, refl)
 
-pub finite-in : (x : Float) → Good binary32 x → In binary32 (fin true 16777215 (pos 104)) largest x
+pub finite_in : (x : Float) → Good binary32 x → In binary32 (fin true 16777215 (pos 104)) largest x
 unfolding fits
-finite-in x g =
-    let z = fits-sized binary32 x g.0 g.1 in
+finite_in x g =
+    let z = fits_sized binary32 x g.0 g.1 in
     let q = z.size_of in
-    let b : q ≤ 16777215 * 2 ^ 253 = up-to-largest q z.rep.q z.rep.j 253 (2 ^ 253) z.rep.few z.rep.is z.rep.fine refl in
+    let b : q ≤ 16777215 * 2 ^ 253 = up_to_largest q z.rep.q z.rep.j 253 (2 ^ 253) z.rep.few z.rep.is z.rep.fine refl in
     record {
       low = (tt, tt);
       high = (tt, tt);
       ok = g;
-      from = under→le binary32 (fin true 16777215 (pos 104)) x true (16777215 * 2 ^ 253) (sign x) q (largest-is true) z.is (under-minus (16777215 * 2 ^ 253) (sign x) q b);
-      upto = under→le binary32 x largest (sign x) q false (16777215 * 2 ^ 253) z.is (largest-is false) (under-plus (16777215 * 2 ^ 253) (sign x) q b);
+      from = under→le binary32 (fin true 16777215 (pos 104)) x true (16777215 * 2 ^ 253) (sign x) q (largest_is true) z.is (under_minus (16777215 * 2 ^ 253) (sign x) q b);
+      upto = under→le binary32 x largest (sign x) q false (16777215 * 2 ^ 253) z.is (largest_is false) (under_plus (16777215 * 2 ^ 253) (sign x) q b);
     }

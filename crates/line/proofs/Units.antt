@@ -10,11 +10,11 @@ use lib.Ieee.Fits.{down_pos, eq→eqb}
 use lib.Ieee.Exact.{HasValue}
 use lib.Ieee.Positive.{first_pos}
 use lib.Ieee.Scale.{round_same}
-use Rattle.line.proofs.Bools.{bool-ext}
+use Rattle.line.proofs.Bools.{bool_ext}
 
 -- the order of a / c and b / c, where a / c is x / l and b / c is y / l
-cross-ltb : (a b c x y l : ℕ) → 0 < c → 0 < l → a * l ≡ x * c → b * l ≡ y * c → ltb a b ≡ ltb x y
-cross-ltb a b c x y l C L p q = go (ltb a b) (ltb x y) (ltb→lt a b) (nltb→le a b) (ltb→lt x y) (nltb→le x y)
+cross_ltb : (a b c x y l : ℕ) → 0 < c → 0 < l → a * l ≡ x * c → b * l ≡ y * c → ltb a b ≡ ltb x y
+cross_ltb a b c x y l C L p q = go (ltb a b) (ltb x y) (ltb→lt a b) (nltb→le a b) (ltb→lt x y) (nltb→le x y)
   where
     go : (s t : Bool) → (T s → a < b) → (T (not s) → b ≤ a) → (T t → x < y) → (T (not t) → y ≤ x) → s ≡ t
     go true true h k i j = refl
@@ -22,24 +22,24 @@ cross-ltb a b c x y l C L p q = go (ltb a b) (ltb x y) (ltb→lt a b) (nltb→le
     go true false h k i j = absurd (not-le_of_lt (mul-lt-mul_of_pos_right (h tt) L) (le_trans (le_of_eq q) (le_trans (mul-le-mul_right c (j tt)) (le_of_eq (sym p)))))
     go false true h k i j = absurd (not-le_of_lt (mul-lt-mul_of_pos_right (i tt) C) (le_trans (le_of_eq (sym q)) (le_trans (mul-le-mul_right l (k tt)) (le_of_eq p))))
 
-pub sub-mul : (a b c : ℕ) → (a - b) * c ≡ a * c - b * c
-sub-mul a b c = mul_comm (a - b) c ∙ mul-sub c a b ∙ ap (λ (z : ℕ). z - c * b) (mul_comm c a) ∙ ap (λ (z : ℕ). a * c - z) (mul_comm c b)
+pub sub_mul : (a b c : ℕ) → (a - b) * c ≡ a * c - b * c
+sub_mul a b c = mul_comm (a - b) c ∙ mul-sub c a b ∙ ap (λ (z : ℕ). z - c * b) (mul_comm c a) ∙ ap (λ (z : ℕ). a * c - z) (mul_comm c b)
 
-cross-eqb : (a b c x y l : ℕ) → 0 < c → 0 < l → a * l ≡ x * c → b * l ≡ y * c → eqb a b ≡ eqb x y
-cross-eqb a b c x y l C L p q =
-    bool-ext (eqb a b) (eqb x y)
+cross_eqb : (a b c x y l : ℕ) → 0 < c → 0 < l → a * l ≡ x * c → b * l ≡ y * c → eqb a b ≡ eqb x y
+cross_eqb a b c x y l C L p q =
+    bool_ext (eqb a b) (eqb x y)
     (λ h. eq→eqb (eq_of_mul-eq-mul_right c C x y (sym p ∙ ap (λ (z : ℕ). z * l) (eqb→eq a b h) ∙ q)))
     (λ h. eq→eqb (eq_of_mul-eq-mul_right l L a b (p ∙ ap (λ (z : ℕ). z * c) (eqb→eq x y h) ∙ sym q)))
 
 -- ---- the sum of two fractions depends on their values alone
-sum-at : (f : Format) (s : Bool) (a : ℕ) (t : Bool) (b c x y l : ℕ) → 0 < c → 0 < l → a * l ≡ x * c → b * l ≡ y * c → sum f s a t b c ≡ sum f s x t y l
+sum_at : (f : Format) (s : Bool) (a : ℕ) (t : Bool) (b c x y l : ℕ) → 0 < c → 0 < l → a * l ≡ x * c → b * l ≡ y * c → sum f s a t b c ≡ sum f s x t y l
 unfolding sum
-sum-at f s a t b c x y l C L p q =
-    let e1 = cross-ltb a b c x y l C L p q in
-    let e2 = cross-ltb b a c y x l C L q p in
+sum_at f s a t b c x y l C L p q =
+    let e1 = cross_ltb a b c x y l C L p q in
+    let e2 = cross_ltb b a c y x l C L q p in
     let r1 : round f s (a + b) c ≡ round f s (x + y) l = round_same f s (a + b) c (x + y) l C L (add-mul a b l ∙ (cc) ∙ sym (add-mul x y c)) in
-    let r2 : round f t (b - a) c ≡ round f t (y - x) l = round_same f t (b - a) c (y - x) l C L (sub-mul b a l ∙ (cc) ∙ sym (sub-mul y x c)) in
-    let r3 : round f (s && ltb b a) (a - b) c ≡ round f (s && ltb b a) (x - y) l = round_same f (s && ltb b a) (a - b) c (x - y) l C L (sub-mul a b l ∙ (cc) ∙ sym (sub-mul x y c)) in
+    let r2 : round f t (b - a) c ≡ round f t (y - x) l = round_same f t (b - a) c (y - x) l C L (sub_mul b a l ∙ (cc) ∙ sym (sub_mul y x c)) in
+    let r3 : round f (s && ltb b a) (a - b) c ≡ round f (s && ltb b a) (x - y) l = round_same f (s && ltb b a) (a - b) c (x - y) l C L (sub_mul a b l ∙ (cc) ∙ sym (sub_mul x y c)) in
     cc
 
 -- ---- x is finite, has the sign s, and is q of the format's smallest values in size
@@ -60,30 +60,30 @@ add_is f (inf u) y s q t r h k = absurd h
 add_is f (fin u m e) nan s q t r h k = absurd k
 add_is f (fin u m e) (inf v) s q t r h k = absurd k
 add_is f (fin u m e) (fin v n d) s q t r h k =
-    sum-at f u (m * up e * down d) v (n * up d * down e) (down e * down d) q r (2 ^ low f) (mul-pos (down_pos e) (down_pos d)) (pow_pos (low f))
+    sum_at f u (m * up e * down d) v (n * up d * down e) (down e * down d) q r (2 ^ low f) (mul-pos (down_pos e) (down_pos d)) (pow_pos (low f))
     (common m (up e) (down e) (down d) q (2 ^ low f) h.1) (common' n (up d) (down d) (down e) r (2 ^ low f) k.1)
     ∙ ap (λ (w : Bool). sum f w q v r (2 ^ low f)) h.0 ∙ ap (λ (w : Bool). sum f s q w r (2 ^ low f)) k.0
 
 -- ---- the order
 below_at : (s : Bool) (a : ℕ) (t : Bool) (b c x y l : ℕ) → 0 < c → 0 < l → a * l ≡ x * c → b * l ≡ y * c → below s a t b ≡ below s x t y
-below_at false a false b c x y l C L p q = cross-ltb a b c x y l C L p q
+below_at false a false b c x y l C L p q = cross_ltb a b c x y l C L p q
 below_at false a true b c x y l C L p q = refl
-below_at true a false b c x y l C L p q = cross-ltb 0 (a + b) c 0 (x + y) l C L (zero-mul l ∙ sym (zero-mul c)) (add-mul a b l ∙ (cc) ∙ sym (add-mul x y c))
-below_at true a true b c x y l C L p q = cross-ltb b a c y x l C L q p
+below_at true a false b c x y l C L p q = cross_ltb 0 (a + b) c 0 (x + y) l C L (zero-mul l ∙ sym (zero-mul c)) (add-mul a b l ∙ (cc) ∙ sym (add-mul x y c))
+below_at true a true b c x y l C L p q = cross_ltb b a c y x l C L q p
 
-level-at : (s : Bool) (a : ℕ) (t : Bool) (b c x y l : ℕ) → 0 < c → 0 < l → a * l ≡ x * c → b * l ≡ y * c → level s a t b ≡ level s x t y
-level-at s a t b c x y l C L p q =
-    let e = cross-eqb a b c x y l C L p q in
-    let z = cross-eqb a 0 c x 0 l C L p (zero-mul l ∙ sym (zero-mul c)) in
+level_at_lem : (s : Bool) (a : ℕ) (t : Bool) (b c x y l : ℕ) → 0 < c → 0 < l → a * l ≡ x * c → b * l ≡ y * c → level s a t b ≡ level s x t y
+level_at_lem s a t b c x y l C L p q =
+    let e = cross_eqb a b c x y l C L p q in
+    let z = cross_eqb a 0 c x 0 l C L p (zero-mul l ∙ sym (zero-mul c)) in
     cc
 
-pub lt-is : (f : Format) (x y : Float) (s : Bool) (q : ℕ) (t : Bool) (r : ℕ) → Is f x s q → Is f y t r → lt x y ≡ below s q t r
+pub lt_is : (f : Format) (x y : Float) (s : Bool) (q : ℕ) (t : Bool) (r : ℕ) → Is f x s q → Is f y t r → lt x y ≡ below s q t r
 unfolding lt
-lt-is f nan y s q t r h k = absurd h
-lt-is f (inf u) y s q t r h k = absurd h
-lt-is f (fin u m e) nan s q t r h k = absurd k
-lt-is f (fin u m e) (inf v) s q t r h k = absurd k
-lt-is f (fin u m e) (fin v n d) s q t r h k =
+lt_is f nan y s q t r h k = absurd h
+lt_is f (inf u) y s q t r h k = absurd h
+lt_is f (fin u m e) nan s q t r h k = absurd k
+lt_is f (fin u m e) (inf v) s q t r h k = absurd k
+lt_is f (fin u m e) (fin v n d) s q t r h k =
     below_at u (m * up e * down d) v (n * up d * down e) (down e * down d) q r (2 ^ low f) (mul-pos (down_pos e) (down_pos d)) (pow_pos (low f))
     (common m (up e) (down e) (down d) q (2 ^ low f) h.1) (common' n (up d) (down d) (down e) r (2 ^ low f) k.1)
     ∙ ap (λ (w : Bool). below w q v r) h.0 ∙ ap (λ (w : Bool). below s q w r) k.0
@@ -95,7 +95,7 @@ eq_is f (inf u) y s q t r h k = absurd h
 eq_is f (fin u m e) nan s q t r h k = absurd k
 eq_is f (fin u m e) (inf v) s q t r h k = absurd k
 eq_is f (fin u m e) (fin v n d) s q t r h k =
-    level-at u (m * up e * down d) v (n * up d * down e) (down e * down d) q r (2 ^ low f) (mul-pos (down_pos e) (down_pos d)) (pow_pos (low f))
+    level_at_lem u (m * up e * down d) v (n * up d * down e) (down e * down d) q r (2 ^ low f) (mul-pos (down_pos e) (down_pos d)) (pow_pos (low f))
     (common m (up e) (down e) (down d) q (2 ^ low f) h.1) (common' n (up d) (down d) (down e) r (2 ^ low f) k.1)
     ∙ ap (λ (w : Bool). level w q v r) h.0 ∙ ap (λ (w : Bool). level s q w r) k.0
 

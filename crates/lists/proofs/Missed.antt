@@ -10,17 +10,17 @@ abbrev pub Missed : ℕ → ℕ → Type 0
 Missed zero i = Unit
 Missed (suc n) i = Missed n i × (OneOf (n ∷ []) i → ⊥)
 
-missed-le : (n i : ℕ) → Missed n i → n ≤ i
-missed-le zero i m = omega arith
-missed-le (suc n) i m = next (missed-le n i m.0) (λ e. m.1 e)
+missed_le : (n i : ℕ) → Missed n i → n ≤ i
+missed_le zero i m = omega arith
+missed_le (suc n) i m = next (missed_le n i m.0) (λ e. m.1 e)
   where
     next : n ≤ i → (i ≡ n → ⊥) → suc n ≤ i
     next h k = omega arith
 
 -- so a table's number past the end means the last
-pub missed-min : (n i : ℕ) → Missed n i → min i n ≡ n
-missed-min n i m = min-eq_right (missed-le n i m)
+pub missed_min : (n i : ℕ) → Missed n i → min i n ≡ n
+missed_min n i m = min-eq_right (missed_le n i m)
 
 -- and where there is one number left, it is that
 pub last : (n i : ℕ) → i < suc n → Missed n i → i ≡ n
-last n i h m = let g = missed-le n i m in omega arith
+last n i h m = let g = missed_le n i m in omega arith

@@ -12,10 +12,10 @@ use lib.Ieee.Scale.{finite}
 use Rattle.series.specs.Near.{Relative}
 use Rattle.fixed.specs.Fixed.{shifted, sign_of, with_sign}
 use Rattle.fixed.proofs.Fields.{down_pos}
-use Rattle.log10.specs.Log10.{log10Two, least, part_of, placeLog, packZero, tenthOf, log10Of}
+use Rattle.log10.specs.Log10.{log10_two, least, part_of, place_log, pack_zero, tenth_of, log10_of}
 use Rattle.log10.specs.Near.{Between, Log10Near}
 use Rattle.log10.proofs.Method.{part_small}
-use Rattle.log10.proofs.Rounding.{K, log10-rounding, log10-reduction-over, log10-reduction-under}
+use Rattle.log10.proofs.Rounding.{K, log10_rounding, log10_reduction_over, log10_reduction_under}
 use Rattle.log10.proofs.Curve.{between}
 use Rattle.log10.proofs.Fields.{Told, told}
 use Rattle.power.proofs.Numbers.{P, M}
@@ -45,42 +45,42 @@ module _ (x : Float) (e t : ℕ) (k : Told x e t) (tl : t < 8388608) where
   value : num x * 2 ^ 149 ≡ (t + 8388608) * 2 ^ (e - 1) * den x
   value = value→cross x ((t + 8388608) * 2 ^ (e - 1)) (2 ^ 149) k.value
 
-  good : (s : Bool) (v : ℕ) (r : Float) → v ≤ 130 * P → shifted s v P ≡ (e + 1) * P + part_of t → (s ≡ true → v ≤ 20 * P) → Relative (2 ^ 24) (v * log10Two / P) (2 ^ 32) r → Good x (with_sign s r)
+  good : (s : Bool) (v : ℕ) (r : Float) → v ≤ 130 * P → shifted s v P ≡ (e + 1) * P + part_of t → (s ≡ true → v ≤ 20 * P) → Relative (2 ^ 24) (v * log10_two / P) (2 ^ 32) r → Good x (with_sign s r)
   good s v nan vl p q h = absurd h
   good s v (inf i) vl p q h = absurd h
   good s v (fin true n i) vl p q h = absurd (true≢false h.0)
   good true v (fin false n i) vl p q h =
-      let o = log10-reduction-over v (n * up i) (down i) vl h.1 h.2 in
-      let u = log10-reduction-under v (n * up i) (down i) vl h.1 h.2 in
+      let o = log10_reduction_over v (n * up i) (down i) vl h.1 h.2 in
+      let u = log10_reduction_under v (n * up i) (down i) vl h.1 h.2 in
       unfold neg sign_of in (tt, between e t (num x) (den x) (n * up i) (down i) v true (omega (arith, k.low)) tl (down_pos i) value p o u (λ z. (omega (arith, q refl), small_result (n * up i) (down i) v (q refl) o)))
   good false v (fin false n i) vl p q h =
-      let o = log10-reduction-over v (n * up i) (down i) vl h.1 h.2 in
-      let u = log10-reduction-under v (n * up i) (down i) vl h.1 h.2 in
+      let o = log10_reduction_over v (n * up i) (down i) vl h.1 h.2 in
+      let u = log10_reduction_under v (n * up i) (down i) vl h.1 h.2 in
       unfold sign_of in (tt, between e t (num x) (den x) (n * up i) (down i) v false (omega (arith, k.low)) tl (down_pos i) value p o u (λ z. absurd (true≢false (sym z))))
 
   -- the quotient fits 64 bits
-  fits-64 : (v : ℕ) → v ≤ 130 * P → v * log10Two / P < 18446744073709551616
-  fits-64 v h = omega arith
+  fits_64 : (v : ℕ) → v ≤ 130 * P → v * log10_two / P < 18446744073709551616
+  fits_64 v h = omega arith
 
-  part-le : part_of t ≤ 8589934592
-  part-le = part_small t tl
+  part_le : part_of t ≤ 8589934592
+  part_le = part_small t tl
 
-  tenth-good : Good x (tenthOf w)
-  unfolding tenthOf
-  tenth-good = go (leb (127 * P) w) (λ u. leb→le (127 * P) w u) (λ u. nleb→lt (127 * P) w u)
+  tenth_good : Good x (tenth_of w)
+  unfolding tenth_of
+  tenth_good = go (leb (127 * P) w) (λ u. leb→le (127 * P) w u) (λ u. nleb→lt (127 * P) w u)
     where
-      go : (b : Bool) → (T b → 127 * P ≤ w) → (T (not b) → w < 127 * P) → Good x (cond b (packZero ((w - 127 * P) * log10Two / P)) (neg (packZero ((127 * P - w) * log10Two / P))))
+      go : (b : Bool) → (T b → 127 * P ≤ w) → (T (not b) → w < 127 * P) → Good x (cond b (pack_zero ((w - 127 * P) * log10_two / P)) (neg (pack_zero ((127 * P - w) * log10_two / P))))
       go true f g =
           let l = f tt in
           let v = w - 127 * P in
-          let vl : v ≤ 130 * P = omega (arith, k.high, part-le) in
-          good false v (packZero (v * log10Two / P)) vl (omega arith) (λ z. absurd (true≢false (sym z))) (log10-rounding (v * log10Two / P) (fits-64 v vl))
+          let vl : v ≤ 130 * P = omega (arith, k.high, part_le) in
+          good false v (pack_zero (v * log10_two / P)) vl (omega arith) (λ z. absurd (true≢false (sym z))) (log10_rounding (v * log10_two / P) (fits_64 v vl))
       go false f g =
           let l = g tt in
           let v = 127 * P - w in
           let vl : v ≤ 20 * P = omega (arith, k.low) in
           let vm : v ≤ 130 * P = omega arith in
-          good true v (packZero (v * log10Two / P)) vm (omega arith) (λ z. vl) (log10-rounding (v * log10Two / P) (fits-64 v vm))
+          good true v (pack_zero (v * log10_two / P)) vm (omega arith) (λ z. vl) (log10_rounding (v * log10_two / P) (fits_64 v vm))
 
 -- ---- every argument
 not_infinite : (x : Float) → T (finite x) → T (not (le (inf false) x))
@@ -89,12 +89,12 @@ not_infinite nan h = tt
 not_infinite (inf s) h = absurd h
 not_infinite (fin s m e) h = tt
 
-pub at-infinity : (x : Float) → T (le (inf false) x) → x ≡ inf false
+pub at_infinity : (x : Float) → T (le (inf false) x) → x ≡ inf false
 unfolding le lt eq
-at-infinity nan h = absurd h
-at-infinity (inf true) h = absurd h
-at-infinity (inf false) h = refl
-at-infinity (fin s m e) h = absurd h
+at_infinity nan h = absurd h
+at_infinity (inf true) h = absurd h
+at_infinity (inf false) h = refl
+at_infinity (fin s m e) h = absurd h
 
 pub is_finite : (x : Float) → T (le least x) → T (not (le (inf false) x)) → T (finite x)
 unfolding le lt eq
@@ -103,20 +103,20 @@ is_finite (inf true) h k = absurd h
 is_finite (inf false) h k = absurd k
 is_finite (fin s m e) h k = tt
 
-pub log10-middle : (x : Float) → T (le least x) → T (finite x) → log10Of x ≡ tenthOf (placeLog (to_bits binary32 x))
-unfolding log10Of
-log10-middle x l f = rw (is_true (le least x) l, is_false (le (inf false) x) (not_infinite x f))
+pub log10_middle : (x : Float) → T (le least x) → T (finite x) → log10_of x ≡ tenth_of (place_log (to_bits binary32 x))
+unfolding log10_of
+log10_middle x l f = rw (is_true (le least x) l, is_false (le (inf false) x) (not_infinite x f))
 
-log10-good : (x : Float) → T (fits binary32 x) → T (le least x) → T (finite x) → Good x (log10Of x)
-unfolding placeLog
-log10-good x h l f =
-    rw (log10-middle x l f)
-    (tenth-good x (to_bits binary32 x / 8388608) (to_bits binary32 x % 8388608) (told x h l f) (omega arith))
+log10_good : (x : Float) → T (fits binary32 x) → T (le least x) → T (finite x) → Good x (log10_of x)
+unfolding place_log
+log10_good x h l f =
+    rw (log10_middle x l f)
+    (tenth_good x (to_bits binary32 x / 8388608) (to_bits binary32 x % 8388608) (told x h l f) (omega arith))
 
-pub log10-near : (x : Float) → T (fits binary32 x) → Log10Near x (log10Of x)
-log10-near x h = record {
-  finite-result = λ l f. (log10-good x h l f).0;
-  near = λ l f. (log10-good x h l f).1;
-  infinite = λ e. unfold log10Of le lt eq in rw e;
-  elsewhere = λ l. unfold log10Of in rw (is_false (le least x) l);
+pub log10_near : (x : Float) → T (fits binary32 x) → Log10Near x (log10_of x)
+log10_near x h = record {
+  finite_result = λ l f. (log10_good x h l f).0;
+  near = λ l f. (log10_good x h l f).1;
+  infinite = λ e. unfold log10_of le lt eq in rw e;
+  elsewhere = λ l. unfold log10_of in rw (is_false (le least x) l);
 }

@@ -2,8 +2,8 @@
 use Rattle.std.specs.Prelude.{false, cond, List, [], ◌∷◌, ℕ, ◌+◌, ◌-◌, ◌*◌, ◌/◌, ◌%◌, ◌^◌, leb, eqb, negsuc, get_or, Float}
 use Rattle.std.specs.Float.{nan, inf, fin, binary32}
 use Rattle.std.specs.Float.Ieee.{to_bits, le, neg}
-use Rattle.fixed.specs.Fixed.{packOf}
-use Rattle.power.specs.Power.{zeroF, productOf, log2E}
+use Rattle.fixed.specs.Fixed.{pack_of}
+use Rattle.power.specs.Power.{zero_f, product_of, log2_e}
 
 -- log2 (1 + j / 64) in Q32, cut
 abbrev pub logs : List ℕ
@@ -18,8 +18,8 @@ logs =
     ∷ 3895065449 ∷ 3946487553 ∷ 3997486425 ∷ 4048068976 ∷ 4098241947 ∷ 4148011917 ∷ 4197385310 ∷ 4246368395 ∷ []
 
 -- log10 2 in Q32, cut
-abbrev pub log10Two : ℕ
-log10Two = 1292913986
+abbrev pub log10_two : ℕ
+log10_two = 1292913986
 
 -- what is left of the significand t / 2 ^ 23 after its first six digits, over them, as r - r² / 2 + r³ / 3 in Q32
 unfoldable pub rest_of : ℕ → ℕ
@@ -30,24 +30,24 @@ rest_of t =
 
 -- log2 of the significand 1 + t / 2 ^ 23, in Q32
 unfoldable pub part_of : ℕ → ℕ
-part_of t = get_or logs (t / 2 ^ 17) 0 + productOf (rest_of t) log2E
+part_of t = get_or logs (t / 2 ^ 17) 0 + product_of (rest_of t) log2_e
 
 -- log2 of the float of the pattern b, plus 127, in Q32
-unfoldable pub placeLog : ℕ → ℕ
-placeLog b = b / 2 ^ 23 * 2 ^ 32 + part_of (b % 2 ^ 23)
+unfoldable pub place_log : ℕ → ℕ
+place_log b = b / 2 ^ 23 * 2 ^ 32 + part_of (b % 2 ^ 23)
 
 -- q of Q32 as a float
-unfoldable pub packZero : ℕ → Float
-packZero q = cond (eqb q 0) zeroF (packOf q 32)
+unfoldable pub pack_zero : ℕ → Float
+pack_zero q = cond (eqb q 0) zero_f (pack_of q 32)
 
 -- log10 of 2 to the power w - 127, for a w of Q32
-unfoldable pub tenthOf : ℕ → Float
-tenthOf w = cond (leb (127 * 2 ^ 32) w) (packZero (productOf (w - 127 * 2 ^ 32) log10Two)) (neg (packZero (productOf (127 * 2 ^ 32 - w) log10Two)))
+unfoldable pub tenth_of : ℕ → Float
+tenth_of w = cond (leb (127 * 2 ^ 32) w) (pack_zero (product_of (w - 127 * 2 ^ 32) log10_two)) (neg (pack_zero (product_of (127 * 2 ^ 32 - w) log10_two)))
 
 -- the float nearest 10 ^ -6
 abbrev pub least : Float
 least = fin false 8796093 (negsuc 42)
 
 -- from there on; infinity at infinity; elsewhere not a number
-unfoldable pub log10Of : Float → Float
-log10Of x = cond (le least x) (cond (le (inf false) x) x (tenthOf (placeLog (to_bits binary32 x)))) nan
+unfoldable pub log10_of : Float → Float
+log10_of x = cond (le least x) (cond (le (inf false) x) x (tenth_of (place_log (to_bits binary32 x)))) nan

@@ -1,6 +1,6 @@
 // The logarithm to base 10. Qk is a whole number that stands for itself over 2^k.
 ghost use Rattle.std.specs.Prelude.{◌≡◌, ◌<◌, ◌≤◌, get_or};
-ghost use Rattle.log10.specs.Log10.{logs, rest_of, part_of, packZero, tenthOf, log10Of};
+ghost use Rattle.log10.specs.Log10.{logs, rest_of, part_of, pack_zero, tenth_of, log10_of};
 ghost use Rattle.log10.specs.Near.{Log10Near};
 
 // log10 2 in Q32
@@ -100,7 +100,7 @@ fn part(t: u64) -> u64
 
 // q of Q32 as a float
 fn pack_zero(q: u64) -> f32
-    ensures { result ≡ packZero q }
+    ensures { result ≡ pack_zero q }
 {
     if q == 0 {
         return 0.0;
@@ -111,7 +111,7 @@ fn pack_zero(q: u64) -> f32
 // log10 of 2^(w - 127), for a w of Q32
 fn tenth(w: u64) -> f32
     requires { w ≤ 1099511627776 }
-    ensures { result ≡ tenthOf w }
+    ensures { result ≡ tenth_of w }
 {
     if w >= 545460846592 {
         return pack_zero(power::product(w - 545460846592, LOG10_TWO));
@@ -120,7 +120,7 @@ fn tenth(w: u64) -> f32
 }
 
 pub fn log10(x: f32) -> f32
-    ensures is { result ≡ log10Of x }
+    ensures is { result ≡ log10_of x }
     ensures near { Log10Near x result }
 {
     if x >= 0.000001 {

@@ -1,8 +1,8 @@
 // What the hat and the cymbal share: draws on a hit, a bank of six square waves, a state-variable filter.
 ghost use Rattle.std.specs.Prelude.{◌≡◌, Bool, ◌+◌, ◌≤◌, ◌<◌, length};
-ghost use Rattle.frame.specs.Offsets.{FRAME-BYTES};
-ghost use Rattle.lists.specs.Turns.{turnsOf};
-ghost use Rattle.metal.specs.Metal.{drawPhase, drawDetune, hitDraws, turn_of, bankOf, svfOf};
+ghost use Rattle.frame.specs.Offsets.{FRAME_BYTES};
+ghost use Rattle.lists.specs.Turns.{turns_of};
+ghost use Rattle.metal.specs.Metal.{draw_phase, draw_detune, hit_draws, turn_of, bank_of, svf_of};
 
 use wobble::{DETUNE_CENTS, Wobble};
 
@@ -20,7 +20,7 @@ pub struct Draws {
 
 fn draw_phase(d: Draws, k: usize) -> Draws
     requires { k < 6 }
-    ensures { result ≡ drawPhase k d }
+    ensures { result ≡ draw_phase k d }
 {
     let mut next = d;
     let w = next.w;
@@ -33,7 +33,7 @@ fn draw_phase(d: Draws, k: usize) -> Draws
 
 fn draw_detune(d: Draws, k: usize) -> Draws
     requires { k < 6 }
-    ensures { result ≡ drawDetune k d }
+    ensures { result ≡ draw_detune k d }
 {
     let mut next = d;
     let w = next.w;
@@ -45,7 +45,7 @@ fn draw_detune(d: Draws, k: usize) -> Draws
 }
 
 fn phases(d: Draws) -> Draws
-    ensures { result ≡ turnsOf 6 drawPhase d }
+    ensures { result ≡ turns_of 6 draw_phase d }
 {
     let mut s = d;
     let mut k: usize = 0;
@@ -57,7 +57,7 @@ fn phases(d: Draws) -> Draws
 }
 
 fn detunes(d: Draws) -> Draws
-    ensures { result ≡ turnsOf 6 drawDetune d }
+    ensures { result ≡ turns_of 6 draw_detune d }
 {
     let mut s = d;
     let mut k: usize = 0;
@@ -78,7 +78,7 @@ pub struct Drawn6 {
 
 // A hit draws detunes, and before them phases where it follows silence.
 pub fn on_hit(hit: bool, silent: bool, ph: [f32; 6], det: [f32; 6], w: Wobble) -> Drawn6
-    ensures { result ≡ hitDraws hit silent ph det w }
+    ensures { result ≡ hit_draws hit silent ph det w }
 {
     if hit {
         if silent {
@@ -138,8 +138,8 @@ fn turn(b: Bank, k: usize, v: u32, det: [f32; 6], skip: bool) -> Bank
 
 // The six in turn; their fields stand from `o` on.
 pub fn run(f: &[u8], o: usize, ph: [f32; 6], det: [f32; 6], skip: bool) -> Bank
-    requires { (FRAME-BYTES ≤ length f.now) × (o + 24 ≤ FRAME-BYTES) }
-    ensures { (result ≡ bankOf f.now o ph det skip) × (result.running ≤ 6) }
+    requires { (FRAME_BYTES ≤ length f.now) × (o + 24 ≤ FRAME_BYTES) }
+    ensures { (result ≡ bank_of f.now o ph det skip) × (result.running ≤ 6) }
 {
     let mut b = Bank {
         ph,
@@ -172,7 +172,7 @@ pub struct SvfOut {
 
 impl Svf {
     pub fn tick(self, x: f32, g: f32, damp: f32) -> SvfOut
-        ensures { result ≡ svfOf self x g damp }
+        ensures { result ≡ svf_of self x g damp }
     {
         let high = x - self.low - damp * self.band;
         let band = self.band + g * high;

@@ -20,8 +20,8 @@ unfolding after_of
 after_more zero p r h = absurd (omega arith)
 after_more (suc n) p r h = rw sub-one
 
-pub lines-both : (m n : ℕ) (p : Playing) (r : List ℕ) → lines_of m p r ++ lines_of n (after_of m p r) r ≡ lines_of (m + n) p r
+pub lines_both : (m n : ℕ) (p : Playing) (r : List ℕ) → lines_of m p r ++ lines_of n (after_of m p r) r ≡ lines_of (m + n) p r
 unfolding lines_of after_of
-lines-both zero n p r = rw zero-add
-lines-both (suc m) n p r =
-    rw (suc-add, append_assoc) (ap (λ (l : List ℕ). line_of p.at (next_of p r) ++ l) (lines-both m n (next_of p r).playing r))
+lines_both zero n p r = rw zero-add
+lines_both (suc m) n p r =
+    rw (suc-add, append_assoc) (ap (λ (l : List ℕ). line_of p.at (next_of p r) ++ l) (lines_both m n (next_of p r).playing r))

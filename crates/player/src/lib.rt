@@ -3,7 +3,7 @@ ghost use Rattle.std.specs.Prelude.{◌≡◌, Bool, ◌++◌, ◌+◌, ◌*◌,
 ghost use Rattle.io.specs.Counts.{IsPrefixLen};
 ghost use Rattle.recording.specs.Play.{next_of};
 ghost use Rattle.recording.specs.Replay.{after_of};
-ghost use Rattle.player.specs.Text.{stepLine, line_of, lines_of, refusalLine, longOf, rest_of, text_of};
+ghost use Rattle.player.specs.Text.{step_line, line_of, lines_of, refusal_line, long_of, rest_of, text_of};
 
 use board::Outcome;
 use recording::Playing;
@@ -36,7 +36,7 @@ struct Paged {
 fn step_line(out: &mut [u8], at: usize, i: u32, number: u32, rx: [i32; 12]) -> usize
     requires { at + 176 ≤ length out.old }
     ensures upper_bound { result ≤ at + 176 }
-    ensures out_after { take result out.new ≡ take at out.old ++ stepLine i number rx }
+    ensures out_after { take result out.new ≡ take at out.old ++ step_line i number rx }
 {
     let a = text::digits(out, at, i, 10);
     let b = text::put(out, a, b' ');
@@ -84,7 +84,7 @@ fn lines(p: Playing, rec: &[u8], out: &mut [u8], count: u32) -> End
 fn refusal_line(out: &mut [u8], number: u32) -> usize
     requires { 11 ≤ length out.old }
     ensures upper_bound { result ≤ length out.old }
-    ensures out_after { take result out.new ≡ refusalLine number }
+    ensures out_after { take result out.new ≡ refusal_line number }
 {
     let end = text::digits(out, 0, number, 10);
     text::put(out, end, b'\n')
@@ -92,7 +92,7 @@ fn refusal_line(out: &mut [u8], number: u32) -> usize
 
 // What an input of more than 65,536 bytes is refused by.
 fn long(rec: &[u8]) -> Outcome
-    ensures { result ≡ longOf rec.now }
+    ensures { result ≡ long_of rec.now }
 {
     if recording::opening_ok(rec) {
         return Outcome::WrongLength;

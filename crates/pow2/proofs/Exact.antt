@@ -12,17 +12,17 @@ use Rattle.lists.proofs.Table.{every, at}
 use Rattle.pow2.specs.Powers.{TwoPower, TwoPowers}
 
 -- x is exactly 2 ^ (k - 126), as a test
-abbrev pub isPower : ℕ → Float → Bool
-isPower k nan = false
-isPower k (inf s) = false
-isPower k (fin s m e) = not s && eqb (m * up e * 2 ^ 126) (2 ^ k * down e)
+abbrev pub is_power : ℕ → Float → Bool
+is_power k nan = false
+is_power k (inf s) = false
+is_power k (fin s m e) = not s && eqb (m * up e * 2 ^ 126) (2 ^ k * down e)
 
-exactly : (k : ℕ) (x : Float) → T (isPower k x) → TwoPower x k
+exactly : (k : ℕ) (x : Float) → T (is_power k x) → TwoPower x k
 exactly k nan t = t
 exactly k (inf s) t = t
 exactly k (fin s m e) t =
     let same = eqb (m * up e * 2 ^ 126) (2 ^ k * down e) in
     (is_false s (and_l (not s) same t), eqb→eq (m * up e * 2 ^ 126) (2 ^ k * down e) (and_r (not s) same t))
 
-pub two-powers : (t : List Float) → length t ≡ 253 → T (every isPower 0 t) → TwoPowers t
-two-powers t l h = record { exact = λ k b. exactly k (get_or t k nan) (at nan isPower t h k (subst (λ (n : ℕ). k < n) (sym l) b)) }
+pub two_powers : (t : List Float) → length t ≡ 253 → T (every is_power 0 t) → TwoPowers t
+two_powers t l h = record { exact = λ k b. exactly k (get_or t k nan) (at nan is_power t h k (subst (λ (n : ℕ). k < n) (sym l) b)) }

@@ -12,52 +12,52 @@ use lib.Ieee.Fits.{and_i}
 use lib.Ieee.Positive.{num, den}
 use lib.Ieee.Exact.{HasValue}
 use Rattle.series.specs.Near.{Relative}
-use Rattle.series.proofs.Nearness.{relative-looser}
+use Rattle.series.proofs.Nearness.{relative_looser}
 use Rattle.fixed.specs.Fixed.{shifted, small, sign_of, place_of, size_of}
 use Rattle.fixed.proofs.Fields.{down_pos}
-use Rattle.fixed.proofs.Order.{le-says, lt-says, le_not_lt, lt_not_le, lt-left, le_left, le_right, lt-le, same_number}
-use Rattle.power.specs.Exact.{twoNum, twoDen, eNum, eDen, tenNum, tenDen}
-use Rattle.power.specs.Power.{zeroF, exp2Low, exp2High, expLow, tenLow, tenHigh, log2E, log2Ten, productOf, powerOf, fallOf, riseOf, exp2Of, expOf, pow10Of}
+use Rattle.fixed.proofs.Order.{le_says, lt_says, le_not_lt, lt_not_le, lt_left, le_left, le_right, lt_le, same_number}
+use Rattle.power.specs.Exact.{two_num, two_den, e_num, e_den, ten_num, ten_den}
+use Rattle.power.specs.Power.{zero_f, exp2_low, exp2_high, exp_low, ten_low, ten_high, log2_e, log2_ten, product_of, power_of, fall_of, rise_of, exp2_of, exp_of, pow10_of}
 use Rattle.power.specs.Near.{Exp2Near, ExpNear, Pow10Near}
-use Rattle.power.proofs.Reduction.{spot-near, base-near}
+use Rattle.power.proofs.Reduction.{spot_near, base_near}
 use Rattle.power.proofs.Whole.{whole}
 
 -- ---- exp2
-pub exp2-lo : (s : Bool) (m : ℕ) (e : ℤ) → T (le exp2Low (fin s m e)) → 2 * down e ≤ shifted s (m * up e) (down e)
-exp2-lo true m e h = let g = le-says true 63 (pos 1) true m e h in omega arith
-exp2-lo false m e h = omega arith
+pub exp2_lo : (s : Bool) (m : ℕ) (e : ℤ) → T (le exp2_low (fin s m e)) → 2 * down e ≤ shifted s (m * up e) (down e)
+exp2_lo true m e h = let g = le_says true 63 (pos 1) true m e h in omega arith
+exp2_lo false m e h = omega arith
 
-pub exp2-hi : (s : Bool) (m : ℕ) (e : ℤ) → T (lt (fin s m e) exp2High) → shifted s (m * up e) (down e) < 255 * down e
-exp2-hi true m e h = omega (arith, down_pos e)
-exp2-hi false m e h = let g = lt-says false m e false 127 (pos 0) h in omega arith
+pub exp2_hi : (s : Bool) (m : ℕ) (e : ℤ) → T (lt (fin s m e) exp2_high) → shifted s (m * up e) (down e) < 255 * down e
+exp2_hi true m e h = omega (arith, down_pos e)
+exp2_hi false m e h = let g = lt_says false m e false 127 (pos 0) h in omega arith
 
 small_of : (s : Bool) (a c : ℕ) → 0 < c → 2 * c ≤ shifted s a c → shifted s a c < 255 * c → a < 128 * c
 small_of true a c p l h = omega arith
 small_of false a c p l h = omega arith
 
 -- from -126 to below 127
-pub exp2-small : (t : Float) → T (le exp2Low t) → T (lt t exp2High) → T (small t)
+pub exp2_small : (t : Float) → T (le exp2_low t) → T (lt t exp2_high) → T (small t)
 unfolding small lt le eq
-exp2-small nan h k = k
-exp2-small (inf true) h k = h
-exp2-small (inf false) h k = k
-exp2-small (fin s m e) h k = lt→ltb (m * up e) (128 * down e) (small_of s (m * up e) (down e) (down_pos e) (exp2-lo s m e h) (exp2-hi s m e k))
+exp2_small nan h k = k
+exp2_small (inf true) h k = h
+exp2_small (inf false) h k = k
+exp2_small (fin s m e) h k = lt→ltb (m * up e) (128 * down e) (small_of s (m * up e) (down e) (down_pos e) (exp2_lo s m e h) (exp2_hi s m e k))
 
-exp2-inside : (t : Float) → T (le exp2Low t) → T (lt t exp2High) → Relative (2 ^ 20) (twoNum (sign_of t) (num t) (den t)) (twoDen (sign_of t) (num t) (den t)) (powerOf (place_of t))
+exp2_inside : (t : Float) → T (le exp2_low t) → T (lt t exp2_high) → Relative (2 ^ 20) (two_num (sign_of t) (num t) (den t)) (two_den (sign_of t) (num t) (den t)) (power_of (place_of t))
 unfolding place_of sign_of lt le eq
-exp2-inside nan h k = absurd k
-exp2-inside (inf true) h k = absurd h
-exp2-inside (inf false) h k = absurd k
-exp2-inside (fin s m e) h k = spot-near s (m * up e) (down e) (down_pos e) (exp2-lo s m e h) (exp2-hi s m e k)
+exp2_inside nan h k = absurd k
+exp2_inside (inf true) h k = absurd h
+exp2_inside (inf false) h k = absurd k
+exp2_inside (fin s m e) h k = spot_near s (m * up e) (down e) (down_pos e) (exp2_lo s m e h) (exp2_hi s m e k)
 
-exp2-whole : (t : Float) → T (le exp2Low t) → T (lt t exp2High) → num t % den t ≡ 0 → HasValue (powerOf (place_of t)) false (twoNum (sign_of t) (num t) (den t)) (twoDen (sign_of t) (num t) (den t))
+exp2_whole : (t : Float) → T (le exp2_low t) → T (lt t exp2_high) → num t % den t ≡ 0 → HasValue (power_of (place_of t)) false (two_num (sign_of t) (num t) (den t)) (two_den (sign_of t) (num t) (den t))
 unfolding place_of sign_of lt le eq
-exp2-whole nan h k z = absurd k
-exp2-whole (inf true) h k z = absurd h
-exp2-whole (inf false) h k z = absurd k
-exp2-whole (fin s m e) h k z =
-    let lo = exp2-lo s m e h in
-    let hi = exp2-hi s m e k in
+exp2_whole nan h k z = absurd k
+exp2_whole (inf true) h k z = absurd h
+exp2_whole (inf false) h k z = absurd k
+exp2_whole (fin s m e) h k z =
+    let lo = exp2_lo s m e h in
+    let hi = exp2_hi s m e k in
     whole s (m * up e) (down e) (down_pos e) lo hi (le_of_lt (small_of s (m * up e) (down e) (down_pos e) lo hi)) z
 
 -- at or above 127 is not below -126, and above 37 not below -37
@@ -67,131 +67,131 @@ above n p nan h low d = tt
 above n p (inf true) h low d = absurd h
 above n p (inf false) h low d = tt
 above n p (fin false m e) h low d = tt
-above n p (fin true m e) h low d = absurd (none (le-says false n (pos 0) true m e h).0)
+above n p (fin true m e) h low d = absurd (none (le_says false n (pos 0) true m e h).0)
   where
     none : n * 1 * down e ≡ 0 → ⊥
     none z = let g = mul-pos p (down_pos e) in omega (arith, mul-one n)
 
-pub exp2-middle : (t : Float) → T (le exp2Low t) → T (lt t exp2High) → exp2Of t ≡ powerOf (place_of t)
-unfolding exp2Of
-exp2-middle t h k = rw (same_number t (lt-left t exp2High k), is_false (lt t exp2Low) (le_not_lt exp2Low t h), is_false (le exp2High t) (lt_not_le t exp2High k))
+pub exp2_middle : (t : Float) → T (le exp2_low t) → T (lt t exp2_high) → exp2_of t ≡ power_of (place_of t)
+unfolding exp2_of
+exp2_middle t h k = rw (same_number t (lt_left t exp2_high k), is_false (lt t exp2_low) (le_not_lt exp2_low t h), is_false (le exp2_high t) (lt_not_le t exp2_high k))
 
-exp2-no-number : (t : Float) → t ≡ nan → exp2Of t ≡ nan
-unfolding exp2Of ne eq
-exp2-no-number t e = rw e
+exp2_no_number : (t : Float) → t ≡ nan → exp2_of t ≡ nan
+unfolding exp2_of ne eq
+exp2_no_number t e = rw e
 
-exp2-low : (t : Float) → T (lt t exp2Low) → exp2Of t ≡ zeroF
-unfolding exp2Of
-exp2-low t h = rw (same_number t (lt-left t exp2Low h), is_true (lt t exp2Low) h)
+exp2_low_lem : (t : Float) → T (lt t exp2_low) → exp2_of t ≡ zero_f
+unfolding exp2_of
+exp2_low_lem t h = rw (same_number t (lt_left t exp2_low h), is_true (lt t exp2_low) h)
 
-exp2-high : (t : Float) → T (le exp2High t) → exp2Of t ≡ inf false
-unfolding exp2Of
-exp2-high t h = rw (same_number t (le_right exp2High t h), is_false (lt t exp2Low) (above 127 (lit< tt) t h 63 (pos 1)), is_true (le exp2High t) h)
+exp2_high_lem : (t : Float) → T (le exp2_high t) → exp2_of t ≡ inf false
+unfolding exp2_of
+exp2_high_lem t h = rw (same_number t (le_right exp2_high t h), is_false (lt t exp2_low) (above 127 (lit< tt) t h 63 (pos 1)), is_true (le exp2_high t) h)
 
-pub exp2-near : (t : Float) → Exp2Near t (exp2Of t)
-exp2-near t = record {
-  no_number = exp2-no-number t;
-  low = exp2-low t;
-  high = exp2-high t;
-  near = λ h k. rw (exp2-middle t h k) (relative-looser 1048575 262143 (twoNum (sign_of t) (num t) (den t)) (twoDen (sign_of t) (num t) (den t)) (powerOf (place_of t)) (lit< tt) (lit≤ tt) (exp2-inside t h k));
-  whole = λ h k z. rw (exp2-middle t h k) (exp2-whole t h k z);
+pub exp2_near : (t : Float) → Exp2Near t (exp2_of t)
+exp2_near t = record {
+  no_number = exp2_no_number t;
+  low = exp2_low_lem t;
+  high = exp2_high_lem t;
+  near = λ h k. rw (exp2_middle t h k) (relative_looser 1048575 262143 (two_num (sign_of t) (num t) (den t)) (two_den (sign_of t) (num t) (den t)) (power_of (place_of t)) (lit< tt) (lit≤ tt) (exp2_inside t h k));
+  whole = λ h k z. rw (exp2_middle t h k) (exp2_whole t h k z);
 }
 
 -- ---- exp
-pub exp-size : (s : Bool) (m : ℕ) (e : ℤ) → T (le expLow (fin s m e)) → T (le (fin s m e) zeroF) → m * up e ≤ 3 * down e
-exp-size true m e h k = let g = le-says true 3 (pos 0) true m e h in omega arith
-exp-size false m e h k = let g = le-says false m e false 0 (pos 0) k in omega (arith, down_pos e)
+pub exp_size : (s : Bool) (m : ℕ) (e : ℤ) → T (le exp_low (fin s m e)) → T (le (fin s m e) zero_f) → m * up e ≤ 3 * down e
+exp_size true m e h k = let g = le_says true 3 (pos 0) true m e h in omega arith
+exp_size false m e h k = let g = le_says false m e false 0 (pos 0) k in omega (arith, down_pos e)
 
 -- at 0 the powers below and above 1 are one
 nought : (a c k : ℕ) → a ≡ 0 → a * 4294967296 / c * k / 4294967296 ≡ 0
 nought a c k z = rw (z, zero-mul 4294967296, zero-div c, zero-mul k) refl
 
-exp-inside : (t : Float) → T (le expLow t) → T (le t zeroF) → Relative (2 ^ 20) (eNum (sign_of t) (num t) (den t)) (eDen (sign_of t) (num t) (den t)) (fallOf log2E t)
-unfolding fallOf size_of sign_of eNum eDen lt le eq
-exp-inside nan h k = absurd k
-exp-inside (inf true) h k = absurd h
-exp-inside (inf false) h k = absurd k
-exp-inside (fin true m e) h k = base-near 144269504088896 log2E 3 (lit≤ tt) (lit≤ tt) (lit≤ tt) (lit≤ tt) (lit≤ tt) (m * up e) (down e) (down_pos e) (exp-size true m e h k) true
-exp-inside (fin false m e) h k =
-    let z : m * up e ≡ 0 = let g = le-says false m e false 0 (pos 0) k in omega (arith, mul-one (m * up e)) in
-    rw (nought (m * up e) (down e) log2E z)
-    (rw (nought (m * up e) (down e) log2E z) at (base-near 144269504088896 log2E 3 (lit≤ tt) (lit≤ tt) (lit≤ tt) (lit≤ tt) (lit≤ tt) (m * up e) (down e) (down_pos e) (exp-size false m e h k) false))
+exp_inside : (t : Float) → T (le exp_low t) → T (le t zero_f) → Relative (2 ^ 20) (e_num (sign_of t) (num t) (den t)) (e_den (sign_of t) (num t) (den t)) (fall_of log2_e t)
+unfolding fall_of size_of sign_of e_num e_den lt le eq
+exp_inside nan h k = absurd k
+exp_inside (inf true) h k = absurd h
+exp_inside (inf false) h k = absurd k
+exp_inside (fin true m e) h k = base_near 144269504088896 log2_e 3 (lit≤ tt) (lit≤ tt) (lit≤ tt) (lit≤ tt) (lit≤ tt) (m * up e) (down e) (down_pos e) (exp_size true m e h k) true
+exp_inside (fin false m e) h k =
+    let z : m * up e ≡ 0 = let g = le_says false m e false 0 (pos 0) k in omega (arith, mul-one (m * up e)) in
+    rw (nought (m * up e) (down e) log2_e z)
+    (rw (nought (m * up e) (down e) log2_e z) at (base_near 144269504088896 log2_e 3 (lit≤ tt) (lit≤ tt) (lit≤ tt) (lit≤ tt) (lit≤ tt) (m * up e) (down e) (down_pos e) (exp_size false m e h k) false))
 
-pub exp-near : (t : Float) → ExpNear t (expOf t)
-exp-near t = record {
-  near = λ h k. unfold expOf in rw (is_true (le expLow t && le t zeroF) (and_i (le expLow t) (le t zeroF) h k)) (relative-looser 1048575 262143 (eNum (sign_of t) (num t) (den t)) (eDen (sign_of t) (num t) (den t)) (fallOf log2E t) (lit< tt) (lit≤ tt) (exp-inside t h k));
-  elsewhere = λ h. unfold expOf in rw (is_false (le expLow t && le t zeroF) h);
+pub exp_near : (t : Float) → ExpNear t (exp_of t)
+exp_near t = record {
+  near = λ h k. unfold exp_of in rw (is_true (le exp_low t && le t zero_f) (and_i (le exp_low t) (le t zero_f) h k)) (relative_looser 1048575 262143 (e_num (sign_of t) (num t) (den t)) (e_den (sign_of t) (num t) (den t)) (fall_of log2_e t) (lit< tt) (lit≤ tt) (exp_inside t h k));
+  elsewhere = λ h. unfold exp_of in rw (is_false (le exp_low t && le t zero_f) h);
 }
 
 -- ---- pow10
-pub ten-size : (s : Bool) (m : ℕ) (e : ℤ) → T (le tenLow (fin s m e)) → T (le (fin s m e) tenHigh) → m * up e ≤ 37 * down e
-ten-size true m e h k = let g = le-says true 37 (pos 0) true m e h in omega arith
-ten-size false m e h k = let g = le-says false m e false 37 (pos 0) k in omega arith
+pub ten_size : (s : Bool) (m : ℕ) (e : ℤ) → T (le ten_low (fin s m e)) → T (le (fin s m e) ten_high) → m * up e ≤ 37 * down e
+ten_size true m e h k = let g = le_says true 37 (pos 0) true m e h in omega arith
+ten_size false m e h k = let g = le_says false m e false 37 (pos 0) k in omega arith
 
-ten-base : (s : Bool) (m : ℕ) (e : ℤ) → m * up e ≤ 37 * down e
-    → Relative (2 ^ 20) (tenNum s (m * up e) (down e)) (tenDen s (m * up e) (down e)) (powerOf (shifted s (m * up e * 4294967296 / down e * log2Ten / 4294967296) 4294967296))
-unfolding tenNum tenDen
-ten-base s m e h = base-near 332192809488736 log2Ten 37 (lit≤ tt) (lit≤ tt) (lit≤ tt) (lit≤ tt) (lit≤ tt) (m * up e) (down e) (down_pos e) h s
+ten_base : (s : Bool) (m : ℕ) (e : ℤ) → m * up e ≤ 37 * down e
+    → Relative (2 ^ 20) (ten_num s (m * up e) (down e)) (ten_den s (m * up e) (down e)) (power_of (shifted s (m * up e * 4294967296 / down e * log2_ten / 4294967296) 4294967296))
+unfolding ten_num ten_den
+ten_base s m e h = base_near 332192809488736 log2_ten 37 (lit≤ tt) (lit≤ tt) (lit≤ tt) (lit≤ tt) (lit≤ tt) (m * up e) (down e) (down_pos e) h s
 
-ten-fall : (t : Float) → T (le tenLow t) → T (le t tenHigh) → T (lt t zeroF) → Relative (2 ^ 20) (tenNum (sign_of t) (num t) (den t)) (tenDen (sign_of t) (num t) (den t)) (fallOf log2Ten t)
-unfolding fallOf size_of sign_of lt le eq
-ten-fall nan h k l = absurd l
-ten-fall (inf true) h k l = absurd h
-ten-fall (inf false) h k l = absurd k
-ten-fall (fin true m e) h k l = ten-base true m e (ten-size true m e h k)
-ten-fall (fin false m e) h k l = absurd (none (lt-says false m e false 0 (pos 0) l))
+ten_fall : (t : Float) → T (le ten_low t) → T (le t ten_high) → T (lt t zero_f) → Relative (2 ^ 20) (ten_num (sign_of t) (num t) (den t)) (ten_den (sign_of t) (num t) (den t)) (fall_of log2_ten t)
+unfolding fall_of size_of sign_of lt le eq
+ten_fall nan h k l = absurd l
+ten_fall (inf true) h k l = absurd h
+ten_fall (inf false) h k l = absurd k
+ten_fall (fin true m e) h k l = ten_base true m e (ten_size true m e h k)
+ten_fall (fin false m e) h k l = absurd (none (lt_says false m e false 0 (pos 0) l))
   where
     none : m * up e * 1 < 0 * 1 * down e → ⊥
     none g = omega arith
 
-ten-rise : (t : Float) → T (le tenLow t) → T (le t tenHigh) → T (not (lt t zeroF)) → Relative (2 ^ 20) (tenNum (sign_of t) (num t) (den t)) (tenDen (sign_of t) (num t) (den t)) (riseOf log2Ten t)
-unfolding riseOf size_of sign_of lt le eq
-ten-rise nan h k l = absurd h
-ten-rise (inf true) h k l = absurd h
-ten-rise (inf false) h k l = absurd k
-ten-rise (fin false m e) h k l = ten-base false m e (ten-size false m e h k)
-ten-rise (fin true m e) h k l =
+ten_rise : (t : Float) → T (le ten_low t) → T (le t ten_high) → T (not (lt t zero_f)) → Relative (2 ^ 20) (ten_num (sign_of t) (num t) (den t)) (ten_den (sign_of t) (num t) (den t)) (rise_of log2_ten t)
+unfolding rise_of size_of sign_of lt le eq
+ten_rise nan h k l = absurd h
+ten_rise (inf true) h k l = absurd h
+ten_rise (inf false) h k l = absurd k
+ten_rise (fin false m e) h k l = ten_base false m e (ten_size false m e h k)
+ten_rise (fin true m e) h k l =
     let g = nltb→le 0 (m * up e * 1 + 0 * 1 * down e) l in
     let z : m * up e ≡ 0 = omega arith in
-    rw (nought (m * up e) (down e) log2Ten z) (rw (nought (m * up e) (down e) log2Ten z) at (ten-base true m e (ten-size true m e h k)))
+    rw (nought (m * up e) (down e) log2_ten z) (rw (nought (m * up e) (down e) log2_ten z) at (ten_base true m e (ten_size true m e h k)))
 
-ten-inside : (t : Float) → T (le tenLow t) → T (le t tenHigh) → Relative (2 ^ 20) (tenNum (sign_of t) (num t) (den t)) (tenDen (sign_of t) (num t) (den t)) (cond (lt t zeroF) (fallOf log2Ten t) (riseOf log2Ten t))
-ten-inside t h k = go (lt t zeroF) (ten-fall t h k) (ten-rise t h k)
+ten_inside : (t : Float) → T (le ten_low t) → T (le t ten_high) → Relative (2 ^ 20) (ten_num (sign_of t) (num t) (den t)) (ten_den (sign_of t) (num t) (den t)) (cond (lt t zero_f) (fall_of log2_ten t) (rise_of log2_ten t))
+ten_inside t h k = go (lt t zero_f) (ten_fall t h k) (ten_rise t h k)
   where
-    go : (b : Bool) → (T b → Relative (2 ^ 20) (tenNum (sign_of t) (num t) (den t)) (tenDen (sign_of t) (num t) (den t)) (fallOf log2Ten t))
-        → (T (not b) → Relative (2 ^ 20) (tenNum (sign_of t) (num t) (den t)) (tenDen (sign_of t) (num t) (den t)) (riseOf log2Ten t))
-        → Relative (2 ^ 20) (tenNum (sign_of t) (num t) (den t)) (tenDen (sign_of t) (num t) (den t)) (cond b (fallOf log2Ten t) (riseOf log2Ten t))
+    go : (b : Bool) → (T b → Relative (2 ^ 20) (ten_num (sign_of t) (num t) (den t)) (ten_den (sign_of t) (num t) (den t)) (fall_of log2_ten t))
+        → (T (not b) → Relative (2 ^ 20) (ten_num (sign_of t) (num t) (den t)) (ten_den (sign_of t) (num t) (den t)) (rise_of log2_ten t))
+        → Relative (2 ^ 20) (ten_num (sign_of t) (num t) (den t)) (ten_den (sign_of t) (num t) (den t)) (cond b (fall_of log2_ten t) (rise_of log2_ten t))
     go true f g = f tt
     go false f g = g tt
 
-ten-middle : (t : Float) → T (le tenLow t) → T (le t tenHigh) → pow10Of t ≡ cond (lt t zeroF) (fallOf log2Ten t) (riseOf log2Ten t)
-unfolding pow10Of
-ten-middle t h k = rw (same_number t (le_left t tenHigh k), is_false (lt t tenLow) (le_not_lt tenLow t h), is_false (lt tenHigh t) (le_not_lt t tenHigh k))
+ten_middle : (t : Float) → T (le ten_low t) → T (le t ten_high) → pow10_of t ≡ cond (lt t zero_f) (fall_of log2_ten t) (rise_of log2_ten t)
+unfolding pow10_of
+ten_middle t h k = rw (same_number t (le_left t ten_high k), is_false (lt t ten_low) (le_not_lt ten_low t h), is_false (lt ten_high t) (le_not_lt t ten_high k))
 
-pub ten-is : (t : Float) → T (le tenLow t) → T (le t tenHigh) → pow10Of t ≡ powerOf (shifted (lt t zeroF) (productOf (size_of t) log2Ten) 4294967296)
-unfolding fallOf riseOf
-ten-is t h k = ten-middle t h k ∙ go (lt t zeroF)
+pub ten_is : (t : Float) → T (le ten_low t) → T (le t ten_high) → pow10_of t ≡ power_of (shifted (lt t zero_f) (product_of (size_of t) log2_ten) 4294967296)
+unfolding fall_of rise_of
+ten_is t h k = ten_middle t h k ∙ go (lt t zero_f)
   where
-    go : (b : Bool) → cond b (fallOf log2Ten t) (riseOf log2Ten t) ≡ powerOf (shifted b (productOf (size_of t) log2Ten) 4294967296)
+    go : (b : Bool) → cond b (fall_of log2_ten t) (rise_of log2_ten t) ≡ power_of (shifted b (product_of (size_of t) log2_ten) 4294967296)
     go true = refl
     go false = refl
 
-ten-no-number : (t : Float) → t ≡ nan → pow10Of t ≡ nan
-unfolding pow10Of ne eq
-ten-no-number t e = rw e
+ten_no_number : (t : Float) → t ≡ nan → pow10_of t ≡ nan
+unfolding pow10_of ne eq
+ten_no_number t e = rw e
 
-ten-low : (t : Float) → T (lt t tenLow) → pow10Of t ≡ zeroF
-unfolding pow10Of
-ten-low t h = rw (same_number t (lt-left t tenLow h), is_true (lt t tenLow) h)
+ten_low_lem : (t : Float) → T (lt t ten_low) → pow10_of t ≡ zero_f
+unfolding pow10_of
+ten_low_lem t h = rw (same_number t (lt_left t ten_low h), is_true (lt t ten_low) h)
 
-ten-high : (t : Float) → T (lt tenHigh t) → pow10Of t ≡ inf false
-unfolding pow10Of
-ten-high t h = rw (same_number t (le_right tenHigh t (lt-le tenHigh t h)), is_false (lt t tenLow) (above 37 (lit< tt) t (lt-le tenHigh t h) 37 (pos 0)), is_true (lt tenHigh t) h)
+ten_high_lem : (t : Float) → T (lt ten_high t) → pow10_of t ≡ inf false
+unfolding pow10_of
+ten_high_lem t h = rw (same_number t (le_right ten_high t (lt_le ten_high t h)), is_false (lt t ten_low) (above 37 (lit< tt) t (lt_le ten_high t h) 37 (pos 0)), is_true (lt ten_high t) h)
 
-pub pow10-near : (t : Float) → Pow10Near t (pow10Of t)
-pow10-near t = record {
-  no_number = ten-no-number t;
-  low = ten-low t;
-  high = ten-high t;
-  near = λ h k. rw (ten-middle t h k) (relative-looser 1048575 16383 (tenNum (sign_of t) (num t) (den t)) (tenDen (sign_of t) (num t) (den t)) (cond (lt t zeroF) (fallOf log2Ten t) (riseOf log2Ten t)) (lit< tt) (lit≤ tt) (ten-inside t h k));
+pub pow10_near : (t : Float) → Pow10Near t (pow10_of t)
+pow10_near t = record {
+  no_number = ten_no_number t;
+  low = ten_low_lem t;
+  high = ten_high_lem t;
+  near = λ h k. rw (ten_middle t h k) (relative_looser 1048575 16383 (ten_num (sign_of t) (num t) (den t)) (ten_den (sign_of t) (num t) (den t)) (cond (lt t zero_f) (fall_of log2_ten t) (rise_of log2_ten t)) (lit< tt) (lit≤ tt) (ten_inside t h k));
 }

@@ -14,8 +14,8 @@ use lib.Ieee.Bits.{of_bits-fits}
 use lib.Ieee.Fits.{mul-fits}
 use Rattle.line.proofs.Units.{Is}
 use Rattle.line.proofs.Rounds.{Rep}
-use Rattle.line.proofs.Exact.{mul-exact, value-unique}
-use Rattle.fixed.proofs.Fields.{pattern-carry, value-other}
+use Rattle.line.proofs.Exact.{mul_exact, value_unique}
+use Rattle.fixed.proofs.Fields.{pattern_carry, value_other}
 use Rattle.pow2.specs.Powers.{TwoPower}
 
 -- 24 digits, moved up by j places, are a value of the format
@@ -36,29 +36,29 @@ rep m j h k = go (eq-or-lt_of_le h)
 abbrev pub q23 : Float
 q23 = of_bits binary32 872415232
 
-q23-is : Is binary32 q23 false (2 ^ 126)
+q23_is : Is binary32 q23 false (2 ^ 126)
 unfolding of_bits
-q23-is = (refl, refl)
+q23_is = (refl, refl)
 
 module _ (m : ℕ) (hi : m ≤ 16777216) where
   whole_is : Is binary32 (of_int binary32 (pos m)) false (m * 2 ^ 149)
   unfolding of_int
-  whole_is = value-other (round binary32 false m 1) false m 1 (m * 2 ^ 149) (2 ^ 149) (lit< tt) (mul-one (m * 2 ^ 149)) (round_whole binary32 false m hi)
+  whole_is = value_other (round binary32 false m 1) false m 1 (m * 2 ^ 149) (2 ^ 149) (lit< tt) (mul-one (m * 2 ^ 149)) (round_whole binary32 false m hi)
 
   abbrev significand : Float
   significand = mul binary32 (of_int binary32 (pos m)) q23
 
-  significand-is : Is binary32 significand false (m * 2 ^ 126)
-  significand-is = mul-exact binary32 (of_int binary32 (pos m)) q23 false false (m * 2 ^ 149) (2 ^ 126) (m * 2 ^ 126) whole_is q23-is (mul_right_comm m (2 ^ 149) (2 ^ 126)) (rep m 126 hi (lit≤ tt))
+  significand_is : Is binary32 significand false (m * 2 ^ 126)
+  significand_is = mul_exact binary32 (of_int binary32 (pos m)) q23 false false (m * 2 ^ 149) (2 ^ 126) (m * 2 ^ 126) whole_is q23_is (mul_right_comm m (2 ^ 149) (2 ^ 126)) (rep m 126 hi (lit≤ tt))
 
-  times-is : (i : ℕ) (p : Float) → i < 253 → TwoPower p i → Is binary32 (mul binary32 significand p) false (m * 2 ^ i)
-  times-is i p l h =
-      mul-exact binary32 significand p false false (m * 2 ^ 126) (2 ^ i * 2 ^ 23) (m * 2 ^ i) significand-is
-      (value-other p false (2 ^ i) (2 ^ 126) (2 ^ i * 2 ^ 23) (2 ^ 149) (pow_pos 126) (mul_assoc (2 ^ i) (2 ^ 23) (2 ^ 126)) h)
+  times_is : (i : ℕ) (p : Float) → i < 253 → TwoPower p i → Is binary32 (mul binary32 significand p) false (m * 2 ^ i)
+  times_is i p l h =
+      mul_exact binary32 significand p false false (m * 2 ^ 126) (2 ^ i * 2 ^ 23) (m * 2 ^ i) significand_is
+      (value_other p false (2 ^ i) (2 ^ 126) (2 ^ i * 2 ^ 23) (2 ^ 149) (pow_pos 126) (mul_assoc (2 ^ i) (2 ^ 23) (2 ^ 126)) h)
       (mul-mul-mul_comm m (2 ^ 126) (2 ^ i) (2 ^ 23)) (rep m i hi (omega arith))
 
-pub product-is-pattern : (i m : ℕ) (p : Float) → i < 253 → 8388608 ≤ m → m ≤ 16777216 → TwoPower p i
+pub product_is_pattern : (i m : ℕ) (p : Float) → i < 253 → 8388608 ≤ m → m ≤ 16777216 → TwoPower p i
     → mul binary32 (mul binary32 (of_int binary32 (pos m)) q23) p ≡ of_bits binary32 (i * 8388608 + m)
-product-is-pattern i m p l lo hi h =
-    value-unique binary32 (mul binary32 (significand m hi) p) (of_bits binary32 (i * 8388608 + m)) false (m * 2 ^ i) (mul-fits binary32 (significand m hi) p) (of_bits-fits binary32 (i * 8388608 + m))
-    (times-is m hi i p l h) (pattern-carry i m l lo hi)
+product_is_pattern i m p l lo hi h =
+    value_unique binary32 (mul binary32 (significand m hi) p) (of_bits binary32 (i * 8388608 + m)) false (m * 2 ^ i) (mul-fits binary32 (significand m hi) p) (of_bits-fits binary32 (i * 8388608 + m))
+    (times_is m hi i p l h) (pattern_carry i m l lo hi)

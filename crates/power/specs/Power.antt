@@ -18,63 +18,63 @@ abbrev pub coefs : List ℕ
 coefs = 4294967296 ∷ 93032639 ∷ 1007582 ∷ 7275 ∷ []
 
 -- 2 ^ h in Q62, for an h of Q32: the root at its first five digits, times the series at the rest
-abbrev pub scaledOf : ℕ → ℕ
-scaledOf h = horner (2 ^ 32) coefs (h % 2 ^ 27 * 32) * get_or roots (h / 2 ^ 27) 0
+abbrev pub scaled_of : ℕ → ℕ
+scaled_of h = horner (2 ^ 32) coefs (h % 2 ^ 27 * 32) * get_or roots (h / 2 ^ 27) 0
 
 -- the same in Q32, cut
-unfoldable pub fractionOf : ℕ → ℕ
-fractionOf h = scaledOf h / 2 ^ 30
+unfoldable pub fraction_of : ℕ → ℕ
+fraction_of h = scaled_of h / 2 ^ 30
 
 -- two to the power w - 128, for a w of Q32: the exponent's field, and 24 digits, to the nearest
-unfoldable pub powerOf : ℕ → Float
-powerOf w = of_bits binary32 ((w / 2 ^ 32 - 2) * 2 ^ 23 + (fractionOf (w % 2 ^ 32) + 2 ^ 8) / 2 ^ 9)
+unfoldable pub power_of : ℕ → Float
+power_of w = of_bits binary32 ((w / 2 ^ 32 - 2) * 2 ^ 23 + (fraction_of (w % 2 ^ 32) + 2 ^ 8) / 2 ^ 9)
 
 -- v * k in Q32, for v and k of Q32, cut
-abbrev pub productOf : ℕ → ℕ → ℕ
-productOf v k = v * k / 2 ^ 32
+abbrev pub product_of : ℕ → ℕ → ℕ
+product_of v k = v * k / 2 ^ 32
 
 -- log2 e and log2 10 in Q32, cut
-abbrev pub log2E : ℕ
-log2E = 6196328018
+abbrev pub log2_e : ℕ
+log2_e = 6196328018
 
-abbrev pub log2Ten : ℕ
-log2Ten = 14267572527
+abbrev pub log2_ten : ℕ
+log2_ten = 14267572527
 
 -- plus zero
-abbrev pub zeroF : Float
-zeroF = fin false 0 (pos 0)
+abbrev pub zero_f : Float
+zero_f = fin false 0 (pos 0)
 
 -- -126, 127, -3, -37, 37
-abbrev pub exp2Low : Float
-exp2Low = fin true 63 (pos 1)
+abbrev pub exp2_low : Float
+exp2_low = fin true 63 (pos 1)
 
-abbrev pub exp2High : Float
-exp2High = fin false 127 (pos 0)
+abbrev pub exp2_high : Float
+exp2_high = fin false 127 (pos 0)
 
-abbrev pub expLow : Float
-expLow = fin true 3 (pos 0)
+abbrev pub exp_low : Float
+exp_low = fin true 3 (pos 0)
 
-abbrev pub tenLow : Float
-tenLow = fin true 37 (pos 0)
+abbrev pub ten_low : Float
+ten_low = fin true 37 (pos 0)
 
-abbrev pub tenHigh : Float
-tenHigh = fin false 37 (pos 0)
+abbrev pub ten_high : Float
+ten_high = fin false 37 (pos 0)
 
 -- exp2: 0 below -126, infinity from 127 on, and between them the power of the argument's place
-unfoldable pub exp2Of : Float → Float
-exp2Of t = cond (ne t t) nan (cond (lt t exp2Low) zeroF (cond (le exp2High t) (inf false) (powerOf (place_of t))))
+unfoldable pub exp2_of : Float → Float
+exp2_of t = cond (ne t t) nan (cond (lt t exp2_low) zero_f (cond (le exp2_high t) (inf false) (power_of (place_of t))))
 
 -- a base whose log2 is k in Q32, to the power of a number below 0, and of one above
-unfoldable pub fallOf : ℕ → Float → Float
-fallOf k t = powerOf (2 ^ 39 - productOf (size_of t) k)
+unfoldable pub fall_of : ℕ → Float → Float
+fall_of k t = power_of (2 ^ 39 - product_of (size_of t) k)
 
-unfoldable pub riseOf : ℕ → Float → Float
-riseOf k t = powerOf (2 ^ 39 + productOf (size_of t) k)
+unfoldable pub rise_of : ℕ → Float → Float
+rise_of k t = power_of (2 ^ 39 + product_of (size_of t) k)
 
 -- exp: from -3 to 0, elsewhere not a number
-unfoldable pub expOf : Float → Float
-expOf t = cond (le expLow t && le t zeroF) (fallOf log2E t) nan
+unfoldable pub exp_of : Float → Float
+exp_of t = cond (le exp_low t && le t zero_f) (fall_of log2_e t) nan
 
 -- the power of ten: 0 below -37, infinity above 37
-unfoldable pub pow10Of : Float → Float
-pow10Of t = cond (ne t t) nan (cond (lt t tenLow) zeroF (cond (lt tenHigh t) (inf false) (cond (lt t zeroF) (fallOf log2Ten t) (riseOf log2Ten t))))
+unfoldable pub pow10_of : Float → Float
+pow10_of t = cond (ne t t) nan (cond (lt t ten_low) zero_f (cond (lt ten_high t) (inf false) (cond (lt t zero_f) (fall_of log2_ten t) (rise_of log2_ten t))))

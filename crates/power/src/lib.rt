@@ -1,7 +1,7 @@
 // The two-power, the exponential and the power of ten, by one core in fixed point. Qk is a whole number that stands for itself over 2^k.
 ghost use Rattle.std.specs.Prelude.{◌≡◌, ◌+◌, ◌*◌, ◌/◌, ◌<◌, ◌≤◌, get_or};
 ghost use Rattle.fixed.specs.Fixed.{shifted};
-ghost use Rattle.power.specs.Power.{roots, scaledOf, fractionOf, powerOf, productOf, exp2Of, expOf, pow10Of};
+ghost use Rattle.power.specs.Power.{roots, scaled_of, fraction_of, power_of, product_of, exp2_of, exp_of, pow10_of};
 ghost use Rattle.power.specs.Near.{Exp2Near, ExpNear, Pow10Near};
 
 // log2 e and log2 10 in Q32
@@ -64,7 +64,7 @@ fn step(b: u64, y: u64, k: u64) -> u64
 // 2^h in Q62, for an h of Q32 below 1
 fn scaled(h: u64) -> u64
     requires { h < 4294967296 }
-    ensures { (result ≡ scaledOf h) × (4611686018427387904 ≤ result) × (result ≤ 9223372036854775808) }
+    ensures { (result ≡ scaled_of h) × (4611686018427387904 ≤ result) × (result ≤ 9223372036854775808) }
 {
     let k = h % 134217728 * 32; // Q32
     let y2 = step(1007582, 7275, k);
@@ -76,7 +76,7 @@ fn scaled(h: u64) -> u64
 // the same in Q32
 pub fn fraction(h: u64) -> u64
     requires { h < 4294967296 }
-    ensures { (result ≡ fractionOf h) × (4294967296 ≤ result) × (result ≤ 8589934592) }
+    ensures { (result ≡ fraction_of h) × (4294967296 ≤ result) × (result ≤ 8589934592) }
 {
     scaled(h) / 1073741824
 }
@@ -84,7 +84,7 @@ pub fn fraction(h: u64) -> u64
 // 2^(w - 128), for a w of Q32: 24 digits from 1 to 2, times the power of two in the table. Both products are exact
 pub fn power(w: u64) -> f32
     requires { (8589934592 ≤ w) × (w < 1095216660480) }
-    ensures { result ≡ powerOf w }
+    ensures { result ≡ power_of w }
 {
     let m = ((scaled(w % 4294967296) + 274877906944) / 549755813888) as u32; // Q23
     (m as f32) * Q23 * pow2::at((w / 4294967296 - 2) as u8)
@@ -93,7 +93,7 @@ pub fn power(w: u64) -> f32
 // v * k of Q32, both of Q32, in two parts so that no product passes 64 bits
 pub fn product(v: u64, k: u64) -> u64
     requires { (v ≤ 1099511627776) × (k < 17179869184) }
-    ensures { result ≡ productOf v k }
+    ensures { result ≡ product_of v k }
 {
     (v / 65536 * k + v % 65536 * k / 65536) / 65536
 }
@@ -111,7 +111,7 @@ fn side(negative: bool, u: u64) -> u64
 }
 
 pub fn exp2(t: f32) -> f32
-    ensures is { result ≡ exp2Of t }
+    ensures is { result ≡ exp2_of t }
     ensures near { Exp2Near t result }
 {
     if (t >= -126.0) & (t < 127.0) {
@@ -127,7 +127,7 @@ pub fn exp2(t: f32) -> f32
 }
 
 pub fn exp(t: f32) -> f32
-    ensures is { result ≡ expOf t }
+    ensures is { result ≡ exp_of t }
     ensures near { ExpNear t result }
 {
     if (t >= -3.0) & (t <= 0.0) {
@@ -137,7 +137,7 @@ pub fn exp(t: f32) -> f32
 }
 
 pub fn pow10(x: f32) -> f32
-    ensures is { result ≡ pow10Of x }
+    ensures is { result ≡ pow10_of x }
     ensures near { Pow10Near x result }
 {
     if (x >= -37.0) & (x <= 37.0) {

@@ -6,7 +6,7 @@ use native.Mathlib.Omega.{arith}
 use mathlib.Core.Path.{◌≡◌, refl, sym, ap, ◌∙◌}
 use mathlib.Core.List.{List, [], ◌∷◌, ◌++◌, map, append-nil}
 use lib.ListN.{get_or, length}
-use Rattle.promise.specs.Levels.{below, Which, pitch, amp, amp2, hat, cymbal, chainAmp, chainFilter, levels, place_of, Osc, dual1, dual2, hatOsc, cymOsc, phases, phasePlace}
+use Rattle.promise.specs.Levels.{below, Which, pitch, amp, amp2, hat, cymbal, chainAmp, chainFilter, levels, place_of, Osc, dual1, dual2, hatOsc, cymOsc, phases, phase_place}
 
 -- the numbers from i on, n of them
 pub up_from : ℕ → ℕ → List ℕ
@@ -37,9 +37,9 @@ pub record Counted {A : Type 0} (n : ℕ) (all : List A) (place : A → ℕ) : T
   pub has : (o a : A) → get_or all (place a) o ≡ a
   pub once : map place all ≡ up_from 0 n
 
-pub levels-34 : Counted 34 levels place_of
+pub levels_34 : Counted 34 levels place_of
 unfolding levels below up_from
-levels-34 = record { count = refl; has = has; once = refl }
+levels_34 = record { count = refl; has = has; once = refl }
   where
     -- what follows each family
     f6 : List Which
@@ -75,9 +75,9 @@ levels-34 = record { count = refl; has = has; once = refl }
     has o (chainAmp v h) = to4 o (8 + v) ∙ past o 8 cymbal f5 v ∙ here o 8 chainAmp f6 v h
     has o (chainFilter v h) = to4 o (8 + (8 + v)) ∙ past o 8 cymbal f5 (8 + v) ∙ past o 8 chainAmp f6 v ∙ last o 8 chainFilter v h
 
-pub phases-18 : Counted 18 phases phasePlace
+pub phases_18 : Counted 18 phases phase_place
 unfolding phases below up_from
-phases-18 = record { count = refl; has = has; once = refl }
+phases_18 = record { count = refl; has = has; once = refl }
   where
     f3 : List Osc
     f3 = below 6 cymOsc
@@ -88,7 +88,7 @@ phases-18 = record { count = refl; has = has; once = refl }
     f1 : List Osc
     f1 = below 3 dual2 ++ f2
 
-    has : (o a : Osc) → get_or phases (phasePlace a) o ≡ a
+    has : (o a : Osc) → get_or phases (phase_place a) o ≡ a
     has o (dual1 d h) = here o 3 dual1 f1 d h
     has o (dual2 d h) = past o 3 dual1 f1 d ∙ here o 3 dual2 f2 d h
     has o (hatOsc k h) = past o 3 dual1 f1 (3 + k) ∙ past o 3 dual2 f2 k ∙ here o 6 hatOsc f3 k h

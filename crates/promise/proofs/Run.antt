@@ -8,59 +8,59 @@ use mathlib.Core.List.{List, [], ◌∷◌, ◌++◌}
 use lib.Dec.{T}
 use lib.Ieee.{Float}
 use Rattle.frame.specs.Frame.{Bytes}
-use Rattle.frame.proofs.Sizes.{bytes-in}
-use Rattle.envelope.specs.Record.{recordOf, tickLevel}
+use Rattle.frame.proofs.Sizes.{bytes_in}
+use Rattle.envelope.specs.Record.{record_of, tick_level}
 use Rattle.envelope.specs.Moves.{Move, given, stood, ticked, settle}
-use Rattle.envelope.specs.States.{State, levelIn, afterIn, NeverStops}
+use Rattle.envelope.specs.States.{State, level_within, after_in, NeverStops}
 use Rattle.envelope.specs.Levels.{Level, Between, Equal, ticks}
-use Rattle.envelope.proofs.Ranges.{record-in}
-use Rattle.envelope.proofs.Arrive.{tick-stays, tick-equal}
-use Rattle.envelope.proofs.Run.{ticks-stay}
-use Rattle.envelope.proofs.Settle.{settle-between}
-use Rattle.envelope.proofs.States.{move-bytes, one-tick, seen-restarts-nothing, never-held, never-parked, never-stops-after}
+use Rattle.envelope.proofs.Ranges.{record_in}
+use Rattle.envelope.proofs.Arrive.{tick_stays, tick_equal}
+use Rattle.envelope.proofs.Run.{ticks_stay}
+use Rattle.envelope.proofs.Settle.{settle_between}
+use Rattle.envelope.proofs.States.{move_bytes, one_tick, seen_restarts_nothing, never_held, never_parked, never_stops_after}
 use Rattle.board.specs.declared.Analog.{Analog}
-use Rattle.promise.specs.Calls.{Given, Call, given_of, taken, next_of, reachedOf}
-use Rattle.promise.specs.Levels.{Which, offsetAt, stateAt, levelAt, recordAt}
-use Rattle.promise.specs.Promise.{move_of, tickedBy, ticksIn, EachAccepted, Carries, Continues, target_of, acceptedIn, NotStopped}
-use Rattle.promise.proofs.Kept.{Good, good-levels, call-good, call-state, call-moves}
+use Rattle.promise.specs.Calls.{Given, Call, given_of, taken, next_of, reached_of}
+use Rattle.promise.specs.Levels.{Which, offset_at, state_at, level_at, record_at}
+use Rattle.promise.specs.Promise.{move_of, ticked_by, ticks_in, EachAccepted, Carries, Continues, target_of, accepted_in, NotStopped}
+use Rattle.promise.proofs.Kept.{Good, good_levels, call_good, call_state, call_moves}
 
 so : (c : Bool) → c ≡ true → T c
 so c e = subst T (sym e) tt
 
-pub reached-good : (b : Analog) (ks : List Call) → Good b → Good (reachedOf b ks)
-unfolding reachedOf
-reached-good b [] g = g
-reached-good b (k ∷ ks) g = reached-good (next_of b k) ks (call-good b k g)
+pub reached_good : (b : Analog) (ks : List Call) → Good b → Good (reached_of b ks)
+unfolding reached_of
+reached_good b [] g = g
+reached_good b (k ∷ ks) g = reached_good (next_of b k) ks (call_good b k g)
 
 -- ---- one tick
 -- the record that a call carries is of bytes
-carried-bytes : (k : Call) (w : Which) → Bytes (recordAt (given_of k).frame w)
-carried-bytes k w = bytes-in (given_of k).frame (given_of k).bytes (offsetAt w)
+carried_bytes : (k : Call) (w : Which) → Bytes (record_at (given_of k).frame w)
+carried_bytes k w = bytes_in (given_of k).frame (given_of k).bytes (offset_at w)
 
-pub call-between : (b : Analog) (k : Call) → Good b → (w : Which) → T (tickedBy b k w) → let m = move_of b k w in Between (stood m (levelAt b w)) (levelAt (next_of b k) w) (given m).target
-call-between b k g w t = by (taken k) (ticked m) t refl refl
+pub call_between : (b : Analog) (k : Call) → Good b → (w : Which) → T (ticked_by b k w) → let m = move_of b k w in Between (stood m (level_at b w)) (level_at (next_of b k) w) (given m).target
+call_between b k g w t = by (taken k) (ticked m) t refl refl
   where
     m : Move
     m = move_of b k w
 
-    by : (c u : Bool) → T (c && u) → taken k ≡ c → ticked (move_of b k w) ≡ u → Between (stood (move_of b k w) (levelAt b w)) (levelAt (next_of b k) w) (given (move_of b k w)).target
+    by : (c u : Bool) → T (c && u) → taken k ≡ c → ticked (move_of b k w) ≡ u → Between (stood (move_of b k w) (level_at b w)) (level_at (next_of b k) w) (given (move_of b k w)).target
     by true true h e f =
-        let r = subst (λ (l : List ℕ). Bytes l) (sym (move-bytes (stateAt b w) (recordAt (given_of k).frame w))) (carried-bytes k w) in
-        subst (λ (y : Float). Between (stood (move_of b k w) (levelAt b w)) y (given (move_of b k w)).target)
-        (sym (call-moves b k g w ∙ ap (λ (c : Bool). cond c (settle (move_of b k w) (levelAt b w)) (levelAt b w)) e))
-        (settle-between (move_of b k w) (levelAt b w) r (good-levels b g w) f)
+        let r = subst (λ (l : List ℕ). Bytes l) (sym (move_bytes (state_at b w) (record_at (given_of k).frame w))) (carried_bytes k w) in
+        subst (λ (y : Float). Between (stood (move_of b k w) (level_at b w)) y (given (move_of b k w)).target)
+        (sym (call_moves b k g w ∙ ap (λ (c : Bool). cond c (settle (move_of b k w) (level_at b w)) (level_at b w)) e))
+        (settle_between (move_of b k w) (level_at b w) r (good_levels b g w) f)
     by true false h e f = absurd h
     by false u h e f = absurd h
 
 -- ---- stretches
 module _ (w : Which) (bytes : List ℕ) where
   abbrev step : Float
-  step = (recordOf bytes).step
+  step = (record_of bytes).step
 
   -- what a call does in a stretch: an accepted one ticks the level, a refused one leaves it
   data One (b : Analog) (k : Call) : Type 0 where
-    tick : Bytes bytes → tickedBy b k w ≡ true → levelAt (next_of b k) w ≡ tickLevel (levelAt b w) (target_of bytes) step → One b k
-    rest : tickedBy b k w ≡ false → levelAt (next_of b k) w ≡ levelAt b w → One b k
+    tick : Bytes bytes → ticked_by b k w ≡ true → level_at (next_of b k) w ≡ tick_level (level_at b w) (target_of bytes) step → One b k
+    rest : ticked_by b k w ≡ false → level_at (next_of b k) w ≡ level_at b w → One b k
 
   one : (b : Analog) (k : Call) → Good b → (T (taken k) → Continues w bytes b (given_of k)) → One b k
   one b k g h = by (taken k) refl
@@ -68,80 +68,80 @@ module _ (w : Which) (bytes : List ℕ) where
       by : (t : Bool) → taken k ≡ t → One b k
       by true e =
           let c = h (so (taken k) e) in
-          let s = stateAt b w in
-          let r = recordAt (given_of k).frame w in
-          let q : stateAt (next_of b k) w ≡ afterIn s r = call-state b k g w ∙ ap (λ (t : Bool). cond t (afterIn s r) s) e in
-          tick (subst (λ (l : List ℕ). Bytes l) c.unchanged (carried-bytes k w))
-          (simp (e, c.not-parked, c.not-held))
-          (ap levelIn q ∙ one-tick s r c.not-restarted c.not-held c.not-parked ∙ ap (λ (l : List ℕ). tickLevel (levelAt b w) (recordOf l).target (recordOf l).step) c.unchanged)
-      by false e = rest (simp e) (call-moves b k g w ∙ ap (λ (t : Bool). cond t (settle (move_of b k w) (levelAt b w)) (levelAt b w)) e)
+          let s = state_at b w in
+          let r = record_at (given_of k).frame w in
+          let q : state_at (next_of b k) w ≡ after_in s r = call_state b k g w ∙ ap (λ (t : Bool). cond t (after_in s r) s) e in
+          tick (subst (λ (l : List ℕ). Bytes l) c.unchanged (carried_bytes k w))
+          (simp (e, c.not_parked, c.not_held))
+          (ap level_within q ∙ one_tick s r c.not_restarted c.not_held c.not_parked ∙ ap (λ (l : List ℕ). tick_level (level_at b w) (record_of l).target (record_of l).step) c.unchanged)
+      by false e = rest (simp e) (call_moves b k g w ∙ ap (λ (t : Bool). cond t (settle (move_of b k w) (level_at b w)) (level_at b w)) e)
 
-  shift : (n : ℕ) (x t s : Float) → ticks n (tickLevel x t s) t s ≡ ticks (suc n) x t s
+  shift : (n : ℕ) (x t s : Float) → ticks n (tick_level x t s) t s ≡ ticks (suc n) x t s
   unfolding ticks
   shift zero x t s = refl
-  shift (suc n) x t s = ap (λ (y : Float). tickLevel y t s) (shift n x t s)
+  shift (suc n) x t s = ap (λ (y : Float). tick_level y t s) (shift n x t s)
 
   abbrev count : Analog → Call → ℕ → ℕ
-  count b k n = cond (tickedBy b k w) (suc n) n
+  count b k n = cond (ticked_by b k w) (suc n) n
 
   -- the level ticks once for each tick that is counted
-  run-level : (b : Analog) (ks : List Call) → Good b → EachAccepted (Continues w bytes) b ks → levelAt (reachedOf b ks) w ≡ ticks (ticksIn w b ks) (levelAt b w) (target_of bytes) step
-  unfolding reachedOf ticksIn ticks
-  run-level b [] g h = refl
-  run-level b (k ∷ ks) g h = run-level (next_of b k) ks (call-good b k g) h.1 ∙ by (one b k g h.0) (ticksIn w (next_of b k) ks)
+  run_level : (b : Analog) (ks : List Call) → Good b → EachAccepted (Continues w bytes) b ks → level_at (reached_of b ks) w ≡ ticks (ticks_in w b ks) (level_at b w) (target_of bytes) step
+  unfolding reached_of ticks_in ticks
+  run_level b [] g h = refl
+  run_level b (k ∷ ks) g h = run_level (next_of b k) ks (call_good b k g) h.1 ∙ by (one b k g h.0) (ticks_in w (next_of b k) ks)
     where
-      by : One b k → (n : ℕ) → ticks n (levelAt (next_of b k) w) (target_of bytes) step ≡ ticks (count b k n) (levelAt b w) (target_of bytes) step
+      by : One b k → (n : ℕ) → ticks n (level_at (next_of b k) w) (target_of bytes) step ≡ ticks (count b k n) (level_at b w) (target_of bytes) step
       by (tick B t e) n =
           ap (λ (y : Float). ticks n y (target_of bytes) step) e
-          ∙ shift n (levelAt b w) (target_of bytes) step
-          ∙ ap (λ (c : Bool). ticks (cond c (suc n) n) (levelAt b w) (target_of bytes) step) (sym t)
+          ∙ shift n (level_at b w) (target_of bytes) step
+          ∙ ap (λ (c : Bool). ticks (cond c (suc n) n) (level_at b w) (target_of bytes) step) (sym t)
       by (rest t e) n =
           ap (λ (y : Float). ticks n y (target_of bytes) step) e
-          ∙ ap (λ (c : Bool). ticks (cond c (suc n) n) (levelAt b w) (target_of bytes) step) (sym t)
+          ∙ ap (λ (c : Bool). ticks (cond c (suc n) n) (level_at b w) (target_of bytes) step) (sym t)
 
   -- a run that ticks has a record of bytes
-  run-bytes : (b : Analog) (ks : List Call) → Good b → EachAccepted (Continues w bytes) b ks → 0 < ticksIn w b ks → Bytes bytes
-  unfolding ticksIn
-  run-bytes b [] g h n = absurd (omega arith)
-  run-bytes b (k ∷ ks) g h n = by (one b k g h.0) (run-bytes (next_of b k) ks (call-good b k g) h.1)
+  run_bytes : (b : Analog) (ks : List Call) → Good b → EachAccepted (Continues w bytes) b ks → 0 < ticks_in w b ks → Bytes bytes
+  unfolding ticks_in
+  run_bytes b [] g h n = absurd (omega arith)
+  run_bytes b (k ∷ ks) g h n = by (one b k g h.0) (run_bytes (next_of b k) ks (call_good b k g) h.1)
     where
-      by : One b k → (0 < ticksIn w (next_of b k) ks → Bytes bytes) → Bytes bytes
+      by : One b k → (0 < ticks_in w (next_of b k) ks → Bytes bytes) → Bytes bytes
       by (tick B t e) rec = B
-      by (rest t e) rec = rec (subst (λ (c : Bool). 0 < cond c (suc (ticksIn w (next_of b k) ks)) (ticksIn w (next_of b k) ks)) t n)
+      by (rest t e) rec = rec (subst (λ (c : Bool). 0 < cond c (suc (ticks_in w (next_of b k) ks)) (ticks_in w (next_of b k) ks)) t n)
 
   more : (n : ℕ) → 131072 ≤ n → n ≡ 131072 + (n - 131072)
   more n h = omega arith
 
-  pub run-arrives : (b : Analog) (ks : List Call) → Good b → EachAccepted (Continues w bytes) b ks → 131072 ≤ ticksIn w b ks → levelAt (reachedOf b ks) w ≡ target_of bytes
-  run-arrives b ks g h n =
-      let r = record-in bytes (run-bytes b ks g h (omega arith)) in
-      run-level b ks g h
-      ∙ ap (λ (k : ℕ). ticks k (levelAt b w) (target_of bytes) step) (more (ticksIn w b ks) n)
-      ∙ ticks-stay (target_of bytes) step r.target.0 r.step (levelAt b w) (good-levels b g w) (ticksIn w b ks - 131072)
+  pub run_arrives : (b : Analog) (ks : List Call) → Good b → EachAccepted (Continues w bytes) b ks → 131072 ≤ ticks_in w b ks → level_at (reached_of b ks) w ≡ target_of bytes
+  run_arrives b ks g h n =
+      let r = record_in bytes (run_bytes b ks g h (omega arith)) in
+      run_level b ks g h
+      ∙ ap (λ (k : ℕ). ticks k (level_at b w) (target_of bytes) step) (more (ticks_in w b ks) n)
+      ∙ ticks_stay (target_of bytes) step r.target.0 r.step (level_at b w) (good_levels b g w) (ticks_in w b ks - 131072)
 
   -- what a tick keeps of a level, a stretch keeps
-  module _ (P : Float → Type 0) (kept : Bytes bytes → (x : Float) → Level x → P x → P (tickLevel x (target_of bytes) step)) where
-    pub run-keeps : (b : Analog) (first later : List Call) → Good b → EachAccepted (Continues w bytes) b (first ++ later) → P (levelAt (reachedOf b first) w) → P (levelAt (reachedOf b (first ++ later)) w)
-    unfolding reachedOf
-    run-keeps b [] [] g h p = p
-    run-keeps b [] (k ∷ ks) g h p = run-keeps (next_of b k) [] ks (call-good b k g) h.1 (by (one b k g h.0))
+  module _ (P : Float → Type 0) (kept : Bytes bytes → (x : Float) → Level x → P x → P (tick_level x (target_of bytes) step)) where
+    pub run_keeps : (b : Analog) (first later : List Call) → Good b → EachAccepted (Continues w bytes) b (first ++ later) → P (level_at (reached_of b first) w) → P (level_at (reached_of b (first ++ later)) w)
+    unfolding reached_of
+    run_keeps b [] [] g h p = p
+    run_keeps b [] (k ∷ ks) g h p = run_keeps (next_of b k) [] ks (call_good b k g) h.1 (by (one b k g h.0))
       where
-        by : One b k → P (levelAt (next_of b k) w)
-        by (tick B t e) = subst P (sym e) (kept B (levelAt b w) (good-levels b g w) p)
+        by : One b k → P (level_at (next_of b k) w)
+        by (tick B t e) = subst P (sym e) (kept B (level_at b w) (good_levels b g w) p)
         by (rest t e) = subst P (sym e) p
-    run-keeps b (k ∷ ks) later g h p = run-keeps (next_of b k) ks later (call-good b k g) h.1 p
+    run_keeps b (k ∷ ks) later g h p = run_keeps (next_of b k) ks later (call_good b k g) h.1 p
 
-  pub run-stays : (b : Analog) (first later : List Call) → Good b → EachAccepted (Continues w bytes) b (first ++ later) → levelAt (reachedOf b first) w ≡ target_of bytes → levelAt (reachedOf b (first ++ later)) w ≡ target_of bytes
-  run-stays b first later g h e =
-      run-keeps (λ (x : Float). x ≡ target_of bytes)
-      (λ B x l p. let r = record-in bytes B in ap (λ (y : Float). tickLevel y (target_of bytes) step) p ∙ tick-stays (target_of bytes) step r.target.0 r.step)
+  pub run_stays : (b : Analog) (first later : List Call) → Good b → EachAccepted (Continues w bytes) b (first ++ later) → level_at (reached_of b first) w ≡ target_of bytes → level_at (reached_of b (first ++ later)) w ≡ target_of bytes
+  run_stays b first later g h e =
+      run_keeps (λ (x : Float). x ≡ target_of bytes)
+      (λ B x l p. let r = record_in bytes B in ap (λ (y : Float). tick_level y (target_of bytes) step) p ∙ tick_stays (target_of bytes) step r.target.0 r.step)
       b first later g h e
 
   -- a level that equals its target as a number, as -0 equals 0, is ticked onto it
-  pub run-stays-equal : (b : Analog) (first later : List Call) → Good b → EachAccepted (Continues w bytes) b (first ++ later) → Equal (levelAt (reachedOf b first) w) (target_of bytes) → Equal (levelAt (reachedOf b (first ++ later)) w) (target_of bytes)
-  run-stays-equal b first later g h e =
-      run-keeps (λ (x : Float). Equal x (target_of bytes))
-      (λ B x l p. let r = record-in bytes B in tick-equal (target_of bytes) step r.target.0 r.step x l p)
+  pub run_stays_equal : (b : Analog) (first later : List Call) → Good b → EachAccepted (Continues w bytes) b (first ++ later) → Equal (level_at (reached_of b first) w) (target_of bytes) → Equal (level_at (reached_of b (first ++ later)) w) (target_of bytes)
+  run_stays_equal b first later g h e =
+      run_keeps (λ (x : Float). Equal x (target_of bytes))
+      (λ B x l p. let r = record_in bytes B in tick_equal (target_of bytes) step r.target.0 r.step x l p)
       b first later g h e
 
 -- ---- runs whose accepted steps carry one record
@@ -149,56 +149,56 @@ module _ (w : Which) (bytes : List ℕ) where
   -- a board whose level has just seen the record
   record Seen (b : Analog) : Type 0 where
     was : State
-    is : stateAt b w ≡ afterIn was bytes
+    is : state_at b w ≡ after_in was bytes
 
-  seen-after : (b : Analog) (k : Call) → Good b → taken k ≡ true → recordAt (given_of k).frame w ≡ bytes → Seen (next_of b k)
-  seen-after b k g t e = record { was = stateAt b w; is = call-state b k g w ∙ (simp (t, e)) }
+  seen_after : (b : Analog) (k : Call) → Good b → taken k ≡ true → record_at (given_of k).frame w ≡ bytes → Seen (next_of b k)
+  seen_after b k g t e = record { was = state_at b w; is = call_state b k g w ∙ (simp (t, e)) }
 
-  seen-left : (b : Analog) (k : Call) → Good b → taken k ≡ false → Seen b → Seen (next_of b k)
-  seen-left b k g t s = record { was = s.was; is = call-state b k g w ∙ (simp t) ∙ s.is }
+  seen_left : (b : Analog) (k : Call) → Good b → taken k ≡ false → Seen b → Seen (next_of b k)
+  seen_left b k g t s = record { was = s.was; is = call_state b k g w ∙ (simp t) ∙ s.is }
 
   continues : (b : Analog) (g : Given) → Seen b → Carries w bytes b g → NotStopped w b g → Continues w bytes b g
-  continues b g s e n = record { unchanged = e; not-restarted = rw (s.is, e) (seen-restarts-nothing s.was bytes); not-held = n.not-held; not-parked = n.not-parked }
+  continues b g s e n = record { unchanged = e; not_restarted = rw (s.is, e) (seen_restarts_nothing s.was bytes); not_held = n.not_held; not_parked = n.not_parked }
 
   -- from there on each accepted step continues the stretch, and ticks
-  seen-stretch : (b : Analog) (ks : List Call) → Good b → Seen b → EachAccepted (Carries w bytes) b ks → EachAccepted (NotStopped w) b ks → EachAccepted (Continues w bytes) b ks × (ticksIn w b ks ≡ acceptedIn ks)
-  unfolding ticksIn acceptedIn
-  seen-stretch b [] g s c n = (tt, refl)
-  seen-stretch b (k ∷ ks) g s c n =
-      let i = seen-stretch (next_of b k) ks (call-good b k g) (next (taken k) refl) c.1 n.1 in (
+  seen_stretch : (b : Analog) (ks : List Call) → Good b → Seen b → EachAccepted (Carries w bytes) b ks → EachAccepted (NotStopped w) b ks → EachAccepted (Continues w bytes) b ks × (ticks_in w b ks ≡ accepted_in ks)
+  unfolding ticks_in accepted_in
+  seen_stretch b [] g s c n = (tt, refl)
+  seen_stretch b (k ∷ ks) g s c n =
+      let i = seen_stretch (next_of b k) ks (call_good b k g) (next (taken k) refl) c.1 n.1 in (
         (λ t. continues b (given_of k) s (c.0 t) (n.0 t), i.0),
         count (taken k) refl ∙ ap (λ (m : ℕ). cond (taken k) (suc m) m) i.1,
       )
     where
       next : (t : Bool) → taken k ≡ t → Seen (next_of b k)
-      next true e = seen-after b k g e (c.0 (so (taken k) e))
-      next false e = seen-left b k g e s
+      next true e = seen_after b k g e (c.0 (so (taken k) e))
+      next false e = seen_left b k g e s
 
-      count : (t : Bool) → taken k ≡ t → cond (tickedBy b k w) (suc (ticksIn w (next_of b k) ks)) (ticksIn w (next_of b k) ks) ≡ cond (taken k) (suc (ticksIn w (next_of b k) ks)) (ticksIn w (next_of b k) ks)
-      count true e = let m = n.0 (so (taken k) e) in simp (e, m.not-parked, m.not-held)
+      count : (t : Bool) → taken k ≡ t → cond (ticked_by b k w) (suc (ticks_in w (next_of b k) ks)) (ticks_in w (next_of b k) ks) ≡ cond (taken k) (suc (ticks_in w (next_of b k) ks)) (ticks_in w (next_of b k) ks)
+      count true e = let m = n.0 (so (taken k) e) in simp (e, m.not_parked, m.not_held)
       count false e = simp e
 
   -- after the first accepted step the rest is a stretch
-  pub settles : (b : Analog) (ks : List Call) → Good b → EachAccepted (Carries w bytes) b ks → EachAccepted (NotStopped w) b ks → 131073 ≤ acceptedIn ks → levelAt (reachedOf b ks) w ≡ target_of bytes
-  unfolding acceptedIn reachedOf
+  pub settles : (b : Analog) (ks : List Call) → Good b → EachAccepted (Carries w bytes) b ks → EachAccepted (NotStopped w) b ks → 131073 ≤ accepted_in ks → level_at (reached_of b ks) w ≡ target_of bytes
+  unfolding accepted_in reached_of
   settles b [] g c n h = absurd (omega arith)
-  settles b (k ∷ ks) g c n h = by (taken k) refl (settles (next_of b k) ks (call-good b k g) c.1 n.1)
+  settles b (k ∷ ks) g c n h = by (taken k) refl (settles (next_of b k) ks (call_good b k g) c.1 n.1)
     where
-      by : (t : Bool) → taken k ≡ t → (131073 ≤ acceptedIn ks → levelAt (reachedOf (next_of b k) ks) w ≡ target_of bytes) → levelAt (reachedOf (next_of b k) ks) w ≡ target_of bytes
+      by : (t : Bool) → taken k ≡ t → (131073 ≤ accepted_in ks → level_at (reached_of (next_of b k) ks) w ≡ target_of bytes) → level_at (reached_of (next_of b k) ks) w ≡ target_of bytes
       by true e rec =
-          let o = seen-stretch (next_of b k) ks (call-good b k g) (seen-after b k g e (c.0 (so (taken k) e))) c.1 n.1 in
-          let l : 131073 ≤ suc (acceptedIn ks) = subst (λ (t : Bool). 131073 ≤ cond t (suc (acceptedIn ks)) (acceptedIn ks)) e h in
-          run-arrives w bytes (next_of b k) ks (call-good b k g) o.0 (rw o.1 (omega arith))
-      by false e rec = rec (subst (λ (t : Bool). 131073 ≤ cond t (suc (acceptedIn ks)) (acceptedIn ks)) e h)
+          let o = seen_stretch (next_of b k) ks (call_good b k g) (seen_after b k g e (c.0 (so (taken k) e))) c.1 n.1 in
+          let l : 131073 ≤ suc (accepted_in ks) = subst (λ (t : Bool). 131073 ≤ cond t (suc (accepted_in ks)) (accepted_in ks)) e h in
+          run_arrives w bytes (next_of b k) ks (call_good b k g) o.0 (rw o.1 (omega arith))
+      by false e rec = rec (subst (λ (t : Bool). 131073 ≤ cond t (suc (accepted_in ks)) (accepted_in ks)) e h)
 
   -- a record that never stops the level stops it in no step that carries it
-  pub not_stopped : (b : Analog) (ks : List Call) → Good b → NeverStops (stateAt b w) bytes → EachAccepted (Carries w bytes) b ks → EachAccepted (NotStopped w) b ks
+  pub not_stopped : (b : Analog) (ks : List Call) → Good b → NeverStops (state_at b w) bytes → EachAccepted (Carries w bytes) b ks → EachAccepted (NotStopped w) b ks
   not_stopped b [] g t c = tt
-  not_stopped b (k ∷ ks) g t c = (λ a. free (c.0 a), not_stopped (next_of b k) ks (call-good b k g) (subst (λ (s : State). NeverStops s bytes) (sym (call-state b k g w)) (after (taken k))) c.1)
+  not_stopped b (k ∷ ks) g t c = (λ a. free (c.0 a), not_stopped (next_of b k) ks (call_good b k g) (subst (λ (s : State). NeverStops s bytes) (sym (call_state b k g w)) (after (taken k))) c.1)
     where
-      free : recordAt (given_of k).frame w ≡ bytes → NotStopped w b (given_of k)
-      free e = record { not-held = rw e (never-held (stateAt b w) bytes t); not-parked = rw e (never-parked (stateAt b w) bytes t) }
+      free : record_at (given_of k).frame w ≡ bytes → NotStopped w b (given_of k)
+      free e = record { not_held = rw e (never_held (state_at b w) bytes t); not_parked = rw e (never_parked (state_at b w) bytes t) }
 
-      after : (u : Bool) → NeverStops (cond u (afterIn (stateAt b w) (recordAt (given_of k).frame w)) (stateAt b w)) bytes
-      after true = never-stops-after (stateAt b w) (recordAt (given_of k).frame w) bytes t
+      after : (u : Bool) → NeverStops (cond u (after_in (state_at b w) (record_at (given_of k).frame w)) (state_at b w)) bytes
+      after true = never_stops_after (state_at b w) (record_at (given_of k).frame w) bytes t
       after false = t

@@ -5,7 +5,7 @@ use Rattle.board.specs.declared.Analog.{Analog}
 use Rattle.board.specs.declared.Answer.{Answer}
 use Rattle.board.specs.declared.Inputs.{Inputs}
 use Rattle.board.specs.declared.Outcome.{Outcome}
-use Rattle.board.specs.Board.{fresh_of, number_of, accepted, refusalOf, steppedOf, answer_of}
+use Rattle.board.specs.Board.{fresh_of, number_of, accepted, refusal_of, stepped_of, answer_of}
 
 -- what a step is given beside the board: a frame of bytes, DAC words, FX parameters, four inputs
 pub record Given : Type 0 where
@@ -29,8 +29,8 @@ abbrev pub given_of : Call → Given
 given_of (step g) = g
 
 -- how it ends, whatever the board
-abbrev pub outcomeOf : Call → Outcome
-outcomeOf (step g) = refusalOf g.frame g.dac g.fx g.inputs
+abbrev pub outcome_of : Call → Outcome
+outcome_of (step g) = refusal_of g.frame g.dac g.fx g.inputs
 
 -- the words that it answers
 abbrev pub words_of : Analog → Call → List ℤ
@@ -38,15 +38,15 @@ words_of b (step g) = (answer b g).rx
 
 -- ---- what is the same for every call
 abbrev pub taken : Call → Bool
-taken k = accepted (outcomeOf k)
+taken k = accepted (outcome_of k)
 
 -- it makes the step with what it was given, or leaves the board
 unfoldable pub next_of : Analog → Call → Analog
-next_of b k = let g = given_of k in cond (taken k) (steppedOf b g.frame g.dac g.fx g.inputs).board b
+next_of b k = let g = given_of k in cond (taken k) (stepped_of b g.frame g.dac g.fx g.inputs).board b
 
 -- an answer with this outcome, these words and this board is call k's
 pub record AnswerOf (b : Analog) (k : Call) (o : Outcome) (rx : List ℤ) (next : Analog) : Type 0 where
-  pub number : number_of o ≡ number_of (outcomeOf k)
+  pub number : number_of o ≡ number_of (outcome_of k)
   pub words : rx ≡ words_of b k
   pub board : next ≡ next_of b k
 
@@ -57,19 +57,19 @@ pub record StepAnswer (b : Analog) (f : List ℕ) (dac : List ℤ) (fx : List �
 
 -- ---- lists
 -- "each step takes the board that the one before it returned"
-unfoldable pub reachedOf : Analog → List Call → Analog
-reachedOf b [] = b
-reachedOf b (k ∷ ks) = reachedOf (next_of b k) ks
+unfoldable pub reached_of : Analog → List Call → Analog
+reached_of b [] = b
+reached_of b (k ∷ ks) = reached_of (next_of b k) ks
 
 -- a board that some list of calls reaches from a fresh one
 pub record Reached (b : Analog) : Type 0 where
   pub seed : ℕ
-  pub seed-fits : seed < 2 ^ 32
+  pub seed_fits : seed < 2 ^ 32
   pub ideal : Bool
   pub calls : List Call
-  pub is : b ≡ reachedOf (fresh_of seed ideal) calls
+  pub is : b ≡ reached_of (fresh_of seed ideal) calls
 
 -- what steps answer, in their order
-unfoldable pub answersOf : Analog → List Given → List Answer
-answersOf b [] = []
-answersOf b (g ∷ gs) = answer b g ∷ answersOf (answer b g).board gs
+unfoldable pub answers_of : Analog → List Given → List Answer
+answers_of b [] = []
+answers_of b (g ∷ gs) = answer b g ∷ answers_of (answer b g).board gs

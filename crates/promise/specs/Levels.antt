@@ -4,13 +4,13 @@ use Rattle.std.proofs.Math.Nat.{suc-le-suc_iff}
 use Rattle.std.proofs.Common.{zero-lt-suc}
 use Rattle.std.specs.Float.{nan}
 use Rattle.frame.specs.Frame.{bytes_at}
-use Rattle.frame.specs.Offsets.{AMP-ENV, FLT-ENV, HAT-ENV, CYM-ENV, PITCH-REC, AMP-REC, AMP2-REC, dualSpec}
+use Rattle.frame.specs.Offsets.{AMP_ENV, FLT_ENV, HAT_ENV, CYM_ENV, PITCH_REC, AMP_REC, AMP2_REC, dual_spec}
 use Rattle.envelope.specs.Moves.{Move}
 use Rattle.envelope.specs.States as State
-use Rattle.envelope.specs.States.{State, levelIn, moveIn}
+use Rattle.envelope.specs.States.{State, level_within, move_in}
 use Rattle.cym.specs.Cym.{no_env}
-use Rattle.sources.specs.Sources.{noDual}
-use Rattle.chain.specs.Chain.{noChain}
+use Rattle.sources.specs.Sources.{no_dual}
+use Rattle.chain.specs.Chain.{no_chain}
 use Rattle.board.specs.declared.Analog.{Analog}
 
 -- all of a family, in order
@@ -39,34 +39,34 @@ place_of (chainAmp v h) = 3 + (3 + (3 + (1 + (8 + v))))
 place_of (chainFilter v h) = 3 + (3 + (3 + (1 + (8 + (8 + v)))))
 
 -- the envelope of a level, where it lies on the board
-abbrev pub stateAt : Analog → Which → State
-stateAt b (pitch d h) = let e = get_or b.duals d noDual in State.dual e.last_p e.pitch.level
-stateAt b (amp d h) = let e = get_or b.duals d noDual in State.dual e.last_a e.amp.level
-stateAt b (amp2 d h) = let e = get_or b.duals d noDual in State.dual e.last_m e.amp2.level
-stateAt b hat = State.hit b.hat.mode b.hat.env.level
-stateAt b (cymbal r h) = State.hit (get_or b.cym.mode r 0) (get_or b.cym.env r no_env).level
-stateAt b (chainAmp v h) = State.chainAmp (get_or b.chains v noChain).amp
-stateAt b (chainFilter v h) = State.chainFilter (get_or b.chains v noChain).flt
+abbrev pub state_at : Analog → Which → State
+state_at b (pitch d h) = let e = get_or b.duals d no_dual in State.dual e.last_p e.pitch.level
+state_at b (amp d h) = let e = get_or b.duals d no_dual in State.dual e.last_a e.amp.level
+state_at b (amp2 d h) = let e = get_or b.duals d no_dual in State.dual e.last_m e.amp2.level
+state_at b hat = State.hit b.hat.mode b.hat.env.level
+state_at b (cymbal r h) = State.hit (get_or b.cym.mode r 0) (get_or b.cym.env r no_env).level
+state_at b (chainAmp v h) = State.chainAmp (get_or b.chains v no_chain).amp
+state_at b (chainFilter v h) = State.chainFilter (get_or b.chains v no_chain).flt
 
 -- where its record stands in the frame
-abbrev pub offsetAt : Which → ℕ
-offsetAt (pitch d h) = (dualSpec d).env + 8 * PITCH-REC
-offsetAt (amp d h) = (dualSpec d).env + 8 * AMP-REC
-offsetAt (amp2 d h) = (dualSpec d).env + 8 * AMP2-REC
-offsetAt hat = HAT-ENV
-offsetAt (cymbal r h) = CYM-ENV + 8 * r
-offsetAt (chainAmp v h) = AMP-ENV + 8 * v
-offsetAt (chainFilter v h) = FLT-ENV + 8 * v
+abbrev pub offset_at : Which → ℕ
+offset_at (pitch d h) = (dual_spec d).env + 8 * PITCH_REC
+offset_at (amp d h) = (dual_spec d).env + 8 * AMP_REC
+offset_at (amp2 d h) = (dual_spec d).env + 8 * AMP2_REC
+offset_at hat = HAT_ENV
+offset_at (cymbal r h) = CYM_ENV + 8 * r
+offset_at (chainAmp v h) = AMP_ENV + 8 * v
+offset_at (chainFilter v h) = FLT_ENV + 8 * v
 
 -- the level, its eight bytes, and its move in an accepted step: the one that the definition of the step makes of the board and the bytes
-abbrev pub levelAt : Analog → Which → Float
-levelAt b w = levelIn (stateAt b w)
+abbrev pub level_at : Analog → Which → Float
+level_at b w = level_within (state_at b w)
 
-abbrev pub recordAt : List ℕ → Which → List ℕ
-recordAt f w = bytes_at f (offsetAt w)
+abbrev pub record_at : List ℕ → Which → List ℕ
+record_at f w = bytes_at f (offset_at w)
 
 abbrev pub move_at : Analog → List ℕ → Which → Move
-move_at b f w = moveIn (stateAt b w) (recordAt f w)
+move_at b f w = move_in (state_at b w) (record_at f w)
 
 -- "An oscillator phase is a number of the board that one of the two phase rules above advances": two per dual voice, six of the hat, six of the cymbal
 pub data Osc : Type 0 where
@@ -76,15 +76,15 @@ pub data Osc : Type 0 where
 unfoldable pub phases : List Osc
 phases = below 3 dual1 ++ (below 3 dual2 ++ (below 6 hatOsc ++ below 6 cymOsc))
 
-abbrev pub phasePlace : Osc → ℕ
-phasePlace (dual1 d h) = d
-phasePlace (dual2 d h) = 3 + d
-phasePlace (hatOsc k h) = 3 + (3 + k)
-phasePlace (cymOsc k h) = 3 + (3 + (6 + k))
+abbrev pub phase_place : Osc → ℕ
+phase_place (dual1 d h) = d
+phase_place (dual2 d h) = 3 + d
+phase_place (hatOsc k h) = 3 + (3 + k)
+phase_place (cymOsc k h) = 3 + (3 + (6 + k))
 
 -- where it stands on the board
-abbrev pub phaseAt : Analog → Osc → Float
-phaseAt b (dual1 d h) = (get_or b.duals d noDual).ph1
-phaseAt b (dual2 d h) = (get_or b.duals d noDual).ph2
-phaseAt b (hatOsc k h) = get_or b.hat.ph k nan
-phaseAt b (cymOsc k h) = get_or b.cym.ph k nan
+abbrev pub phase_at : Analog → Osc → Float
+phase_at b (dual1 d h) = (get_or b.duals d no_dual).ph1
+phase_at b (dual2 d h) = (get_or b.duals d no_dual).ph2
+phase_at b (hatOsc k h) = get_or b.hat.ph k nan
+phase_at b (cymOsc k h) = get_or b.cym.ph k nan

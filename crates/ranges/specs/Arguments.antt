@@ -1,98 +1,98 @@
 -- What each definition of the step gives to its curve. Definitions only; proofs/Called.antt shows that these are what the definitions give.
 use Rattle.std.specs.Prelude.{ℕ, ◌+◌, ◌*◌, Bool, cond, List, Float}
 use Rattle.std.specs.Float.Ieee.{neg}
-use Rattle.float.specs.Consts.{k0, k1, LEVELS-PER-6DB, k12, k60, k64, k127, k500, k512, k1200, k6000, k12000, k16000, k32767, k32768, FS, k0p03, k0p45, k0p75, k1p5, k5p64, TAU, PI}
+use Rattle.float.specs.Consts.{k0, k1, LEVELS_PER_6DB, k12, k60, k64, k127, k500, k512, k1200, k6000, k12000, k16000, k32767, k32768, FS, k0p03, k0p45, k0p75, k1p5, k5p64, TAU, PI}
 use Rattle.float.specs.Ops.{◌⊕◌, ◌⊖◌, ◌⊗◌, ◌⊘◌}
-use Rattle.float.specs.Floats.{minOf, max_of, clampOf}
-use Rattle.frame.specs.Offsets.{FRQ, FLT-ENV, HAT-COLOUR, CYM-COLOUR}
-use Rattle.frame.specs.Frame.{signedF}
-use Rattle.power.specs.Power.{exp2Of}
+use Rattle.float.specs.Floats.{min_of, max_of, clamp_of}
+use Rattle.frame.specs.Offsets.{FRQ, FLT_ENV, HAT_COLOUR, CYM_COLOUR}
+use Rattle.frame.specs.Frame.{signed_f}
+use Rattle.power.specs.Power.{exp2_of}
 use Rattle.wobble.specs.declared.Wobble.{Wobble}
 use Rattle.wobble.specs.declared.Drift.{Drift}
-use Rattle.wobble.specs.Wobble.{DETUNE-CENTS, uniOf, centsOf}
-use Rattle.vco.specs.Vco.{asymOf}
+use Rattle.wobble.specs.Wobble.{DETUNE_CENTS, uni_of, cents_of}
+use Rattle.vco.specs.Vco.{asym_of}
 use Rattle.comp.specs.Consts.{k20, k0p000001, k0p00001}
 
 -- ---- the oscillators
--- `detuneOf` to exp2
+-- `detune_of` to exp2
 abbrev pub detune : Wobble → Float
-detune w = (uniOf w).x ⊗ DETUNE-CENTS ⊗ w.depth ⊘ k1200
+detune w = (uni_of w).x ⊗ DETUNE_CENTS ⊗ w.depth ⊘ k1200
 
--- `driftOf` to exp2
+-- `drift_of` to exp2
 abbrev pub drift : Drift → Wobble → Float
-drift d w = centsOf d.cents (uniOf w).x w.depth ⊘ k1200
+drift d w = cents_of d.cents (uni_of w).x w.depth ⊘ k1200
 
--- `waveAt` of a sine and of a sinesaw, and `plain_of` of `dual`, to the sine
+-- `wave_at` of a sine and of a sinesaw, and `plain_of` of `dual`, to the sine
 abbrev pub turn : Float → Float
 turn p = TAU ⊗ p
 
--- `waveAt` of an asymmetric sine to the sine
-abbrev pub asymTurn : Float → Float
-asymTurn p = TAU ⊗ asymOf p
+-- `wave_at` of an asymmetric sine to the sine
+abbrev pub asym_turn : Float → Float
+asym_turn p = TAU ⊗ asym_of p
 
--- `gainOf` of `dual` and of `chain`, and `soundOf` of `hat`, to exp2
+-- `gain_of` of `dual` and of `chain`, and `sound_of` of `hat`, to exp2
 abbrev pub gain : Float → Float
-gain level = (level ⊖ k127) ⊘ LEVELS-PER-6DB
+gain level = (level ⊖ k127) ⊘ LEVELS_PER_6DB
 
 -- ---- hat and cymbal
--- `colourOf` of `hat` to exp2, and to the sine
-abbrev pub hatColour : List ℕ → Float
-hatColour f = k1p5 ⊗ (signedF f HAT-COLOUR ⊘ k32768)
+-- `colour_of` of `hat` to exp2, and to the sine
+abbrev pub hat_colour : List ℕ → Float
+hat_colour f = k1p5 ⊗ (signed_f f HAT_COLOUR ⊘ k32768)
 
-abbrev pub hatFilter : List ℕ → Float
-hatFilter f = PI ⊗ clampOf (k6000 ⊗ exp2Of (hatColour f)) k500 k16000 ⊘ FS
+abbrev pub hat_filter : List ℕ → Float
+hat_filter f = PI ⊗ clamp_of (k6000 ⊗ exp2_of (hat_colour f)) k500 k16000 ⊘ FS
 
--- `soundOf` of `cym` to exp2
-abbrev pub cymColour : List ℕ → Float
-cymColour f = k0p75 ⊗ (signedF f CYM-COLOUR ⊘ k32768)
+-- `sound_of` of `cym` to exp2
+abbrev pub cym_colour : List ℕ → Float
+cym_colour f = k0p75 ⊗ (signed_f f CYM_COLOUR ⊘ k32768)
 
--- `coefficientOf` to the sine
-abbrev pub cymFilter : Float → Bool → Float → Float
-cymFilter hz fixed ratio = PI ⊗ minOf (cond fixed hz (hz ⊗ ratio)) k16000 ⊘ FS
+-- `coefficient_of` to the sine
+abbrev pub cym_filter : Float → Bool → Float → Float
+cym_filter hz fixed ratio = PI ⊗ min_of (cond fixed hz (hz ⊗ ratio)) k16000 ⊘ FS
 
 -- ---- the toms
--- the decay word at o; `decayOf` to exp2, and to exp
-abbrev pub decayWord : List ℕ → ℕ → Float
-decayWord f o = signedF f o ⊘ k32767
+-- the decay word at o; `decay_of` to exp2, and to exp
+abbrev pub decay_word : List ℕ → ℕ → Float
+decay_word f o = signed_f f o ⊘ k32767
 
 abbrev pub decay : Float → Float
 decay d = max_of d k0 ⊗ k5p64
 
-abbrev pub ringKept : Float → Float
-ringKept d = neg k1 ⊘ (k0p03 ⊗ exp2Of (decay d) ⊗ FS)
+abbrev pub ring_kept : Float → Float
+ring_kept d = neg k1 ⊘ (k0p03 ⊗ exp2_of (decay d) ⊗ FS)
 
--- `ringOf` to the cosine
+-- `ring_of` to the cosine
 abbrev pub ring : Float → Float
-ring hz = TAU ⊗ minOf hz k12000 ⊘ FS
+ring hz = TAU ⊗ min_of hz k12000 ⊘ FS
 
 -- ---- the chains
--- voice v's words for the cutoff, and `cutoffOf` to exp2
-abbrev pub frqWord : List ℕ → ℕ → Float
-frqWord f v = signedF f (FRQ + 2 * v)
+-- voice v's words for the cutoff, and `cutoff_of` to exp2
+abbrev pub frq_word : List ℕ → ℕ → Float
+frq_word f v = signed_f f (FRQ + 2 * v)
 
-abbrev pub depthWord : List ℕ → ℕ → Float
-depthWord f v = signedF f (FLT-ENV + 8 * v)
+abbrev pub depth_word : List ℕ → ℕ → Float
+depth_word f v = signed_f f (FLT_ENV + 8 * v)
 
 abbrev pub cutoff : Float → Float → Float → Float
 cutoff frq depth level = let cv = frq ⊕ depth ⊗ (max_of level k0 ⊘ k127) in (cv ⊘ k512 ⊕ k64 ⊖ k60) ⊘ k12
 
--- `coefsOf` to the tangent
+-- `coefs_of` to the tangent
 abbrev pub tangent : Float → Float
-tangent fc = PI ⊗ minOf fc (FS ⊗ k0p45) ⊘ FS
+tangent fc = PI ⊗ min_of fc (FS ⊗ k0p45) ⊘ FS
 
--- `lp1Of`, and `poleOf` of `comp`, to exp
+-- `lp1_of`, and `pole_of` of `comp`, to exp
 abbrev pub pole : Float → Float
 pole hz = neg TAU ⊗ hz ⊘ FS
 
 -- ---- the compressor
--- `coefOf` to exp, of a time in seconds
+-- `coef_of` to exp, of a time in seconds
 abbrev pub kept : Float → Float
 kept t = neg k1 ⊘ (max_of t k0p00001 ⊗ FS)
 
--- `levelOf` to log10
+-- `level_of` to log10
 abbrev pub envelope : Float → Float
 envelope env = max_of env k0p000001
 
--- `dbOf` to the power of ten
+-- `db_of` to the power of ten
 abbrev pub decibels : Float → Float
 decibels x = x ⊘ k20

@@ -9,14 +9,14 @@ use borrow.Author.Tests.{eqb-true}
 use Rattle.board.specs.declared.Inputs.{Inputs}
 use Rattle.board.specs.declared.Outcome.{Outcome}
 use Rattle.board.specs.declared.Outcome.TheVariants.{Done, SlotTable, DestinationCount}
-use Rattle.board.specs.Board.{accepted, refusalOf}
+use Rattle.board.specs.Board.{accepted, refusal_of}
 use Rattle.board.proofs.Accepts.{met}
-use Rattle.slots.specs.Slots.{rightTable}
-use Rattle.receive.specs.Receive.{receiveRefusalOf}
+use Rattle.slots.specs.Slots.{right_table}
+use Rattle.receive.specs.Receive.{receive_refusal_of}
 
 pub record Taken (f : List ℕ) (dac : List ℤ) (fx : List ℕ) (x : Inputs) (slots : List ℕ) (room : ℕ) : Type 0 where
-  pub step : accepted (refusalOf f dac fx x) ≡ true
-  pub table : T (rightTable slots)
+  pub step : accepted (refusal_of f dac fx x) ≡ true
+  pub table : T (right_table slots)
   pub twelve : room ≡ 12
 
 -- a refused step is told by its own number
@@ -24,12 +24,12 @@ stepped : (o p : Outcome) (t : Bool) → accepted o ≡ t → accepted (cond t p
 stepped o p true e h = (e, h)
 stepped o p false e h = absurd (true≢false (sym h ∙ e))
 
-pub accepted-taken : (f : List ℕ) (dac : List ℤ) (fx : List ℕ) (x : Inputs) (slots : List ℕ) (room : ℕ) → accepted (receiveRefusalOf f dac fx x slots room) ≡ true → Taken f dac fx x slots room
-unfolding receiveRefusalOf
-accepted-taken f dac fx x slots room h =
-    let o = refusalOf f dac fx x in
-    let s = stepped o (cond (rightTable slots) (cond (eqb room 12) Done DestinationCount) SlotTable) (accepted o) refl h in
-    let t : rightTable slots ≡ true = met (rightTable slots) (cond (eqb room 12) Done DestinationCount) SlotTable refl s.1 in
+pub accepted_taken : (f : List ℕ) (dac : List ℤ) (fx : List ℕ) (x : Inputs) (slots : List ℕ) (room : ℕ) → accepted (receive_refusal_of f dac fx x slots room) ≡ true → Taken f dac fx x slots room
+unfolding receive_refusal_of
+accepted_taken f dac fx x slots room h =
+    let o = refusal_of f dac fx x in
+    let s = stepped o (cond (right_table slots) (cond (eqb room 12) Done DestinationCount) SlotTable) (accepted o) refl h in
+    let t : right_table slots ≡ true = met (right_table slots) (cond (eqb room 12) Done DestinationCount) SlotTable refl s.1 in
     record {
       step = s.0;
       table = subst T (sym t) tt;

@@ -1,6 +1,6 @@
 // A step whose receive words are copied into lent memory as the firmware's audio interrupt does.
 ghost use mathlib.Core.Path.{◌≡◌};
-ghost use Rattle.receive.specs.Receive.{receiveRefusalOf, refusedOf, Receive};
+ghost use Rattle.receive.specs.Receive.{receive_refusal_of, refused_of, Receive};
 
 use board::{Analog, Inputs, Outcome};
 use stereo::Mix;
@@ -15,7 +15,7 @@ pub struct Received {
 
 // A step's own refusals, then the slot table, then the destination's length.
 fn refusal(f: &[u8], dac: &[i32], fx: &[u8], x: Inputs, slots: &[u8], room: usize) -> Outcome
-    ensures { result ≡ receiveRefusalOf f.now dac.now fx.now x slots.now room }
+    ensures { result ≡ receive_refusal_of f.now dac.now fx.now x slots.now room }
 {
     let outcome = board::refusal(f, dac, fx, x);
     if board::number(outcome) == 0 {
@@ -31,7 +31,7 @@ fn refusal(f: &[u8], dac: &[i32], fx: &[u8], x: Inputs, slots: &[u8], room: usiz
 }
 
 fn refused(board: Analog, outcome: Outcome) -> Received
-    ensures { result ≡ refusedOf board outcome }
+    ensures { result ≡ refused_of board outcome }
 {
     Received {
         outcome,

@@ -9,35 +9,35 @@ use Rattle.board.specs.declared.Outcome.TheVariants.{Done, BadOpening, WrongLeng
 use Rattle.recording.specs.declared.Playing.{Playing}
 use Rattle.recording.specs.declared.Played.{Played}
 use Rattle.recording.specs.declared.Opened.{Opened}
-use Rattle.recording.specs.Format.{seedOf, idealOf, steps_of, bodiesOf, openingOk, extentOf, entry_at, namedTo, frame_at, fxAt, dacAt, inputsAt}
+use Rattle.recording.specs.Format.{seed_of, ideal_of, steps_of, bodies_of, opening_ok, extent_of, entry_at, named_to, frame_at, fx_at, dac_at, inputs_at}
 
 -- "a fresh board", at the first step
-unfoldable pub readyOf : List ℕ → Opened
-readyOf r = record {
+unfoldable pub ready_of : List ℕ → Opened
+ready_of r = record {
   outcome = Done;
-  playing = record { board = fresh_of (seedOf r) (idealOf r); steps = steps_of r; bodies = bodiesOf r; at = 0 };
+  playing = record { board = fresh_of (seed_of r) (ideal_of r); steps = steps_of r; bodies = bodies_of r; at = 0 };
 }
 
 -- a refused recording has no steps; the board of seed 0 fills the place
-unfoldable pub closedOf : Outcome → Opened
-closedOf o = record { outcome = o; playing = record { board = fresh_of 0 false; steps = 0; bodies = 0; at = 0 } }
+unfoldable pub closed_of : Outcome → Opened
+closed_of o = record { outcome = o; playing = record { board = fresh_of 0 false; steps = 0; bodies = 0; at = 0 } }
 
 -- "refused by 6 .. by 7 .. by 8, tested in this order before the first step"
-unfoldable pub openOf : List ℕ → Opened
-openOf r =
-    cond (openingOk r)
-    (cond (eqb (length r) (extentOf (steps_of r) (bodiesOf r)))
-    (cond (namedTo r (bodiesOf r) (steps_of r)) (readyOf r) (closedOf NoBody))
-    (closedOf WrongLength))
-    (closedOf BadOpening)
+unfoldable pub open_of : List ℕ → Opened
+open_of r =
+    cond (opening_ok r)
+    (cond (eqb (length r) (extent_of (steps_of r) (bodies_of r)))
+    (cond (named_to r (bodies_of r) (steps_of r)) (ready_of r) (closed_of NoBody))
+    (closed_of WrongLength))
+    (closed_of BadOpening)
 
 -- "Each step answers as a direct call would": the call that the body at o makes
 unfoldable pub body_of : Analog → List ℕ → ℕ → Answer
-body_of b r o = answer_of b (frame_at r o) (dacAt r (o + 688) 16) (fxAt r o) (inputsAt r (o + 752))
+body_of b r o = answer_of b (frame_at r o) (dac_at r (o + 688) 16) (fx_at r o) (inputs_at r (o + 752))
 
 -- the answer, accepted or refused, and the recording at its next step: "a refused step doesn't end the replay"
-unfoldable pub passedOf : Playing → Answer → Played
-passedOf p a = record {
+unfoldable pub passed_of : Playing → Answer → Played
+passed_of p a = record {
   outcome = a.outcome;
   rx = a.rx;
   mix = a.mix;
@@ -45,16 +45,16 @@ passedOf p a = record {
 }
 
 -- no step is played
-unfoldable pub unplayedOf : Playing → Outcome → Played
-unplayedOf p o = record { outcome = o; rx = replicate 12 (pos 0); mix = record { l = k0; r = k0 }; playing = p }
+unfoldable pub unplayed_of : Playing → Outcome → Played
+unplayed_of p o = record { outcome = o; rx = replicate 12 (pos 0); mix = record { l = k0; r = k0 }; playing = p }
 
 -- the next step, for any place and any slice: past the last step there is no body, and another length is a wrong one
 unfoldable pub next_of : Playing → List ℕ → Played
 next_of p r =
-    cond (eqb (length r) (extentOf p.steps p.bodies))
+    cond (eqb (length r) (extent_of p.steps p.bodies))
     (cond (ltb p.at p.steps)
     (cond (ltb (entry_at r p.at) p.bodies)
-    (passedOf p (body_of p.board r (extentOf p.steps (entry_at r p.at))))
-    (unplayedOf p NoBody))
-    (unplayedOf p NoBody))
-    (unplayedOf p WrongLength)
+    (passed_of p (body_of p.board r (extent_of p.steps (entry_at r p.at))))
+    (unplayed_of p NoBody))
+    (unplayed_of p NoBody))
+    (unplayed_of p WrongLength)

@@ -2,30 +2,30 @@
 use Rattle.std.specs.Prelude.{ℕ, zero, suc, ◌+◌, ◌≡◌, false, List, [], ◌∷◌, map, length, replicate, pos}
 use Rattle.board.specs.declared.Answer.{Answer}
 use Rattle.board.specs.Board.{fresh_of, accepted}
-use Rattle.promise.specs.Calls.{Given, step, answer, next_of, reachedOf, answersOf}
+use Rattle.promise.specs.Calls.{Given, step, answer, next_of, reached_of, answers_of}
 use Rattle.promise.specs.Promise.{Promise, Beyond}
 use Rattle.recording.specs.declared.Playing.{Playing}
 use Rattle.recording.specs.declared.Played.{Played}
-use Rattle.recording.specs.Format.{seedOf, idealOf, steps_of, extentOf, entry_at, frame_at, fxAt, dacAt, inputsAt}
-use Rattle.recording.specs.Play.{openOf}
+use Rattle.recording.specs.Format.{seed_of, ideal_of, steps_of, extent_of, entry_at, frame_at, fx_at, dac_at, inputs_at}
+use Rattle.recording.specs.Play.{open_of}
 use Rattle.recording.specs.Play as Play
 
 -- a step is given what the body at o holds
 pub record BodyAt (r : List ℕ) (o : ℕ) (g : Given) : Type 0 where
   pub frame : g.frame ≡ frame_at r o
-  pub dac : g.dac ≡ dacAt r (o + 688) 16
-  pub fx : g.fx ≡ fxAt r o
-  pub inputs : g.inputs ≡ inputsAt r (o + 752)
+  pub dac : g.dac ≡ dac_at r (o + 688) 16
+  pub fx : g.fx ≡ fx_at r o
+  pub inputs : g.inputs ≡ inputs_at r (o + 752)
 
 -- steps from step i on are given the bodies that the contents name
 unfoldable pub Bodies : List ℕ → ℕ → List Given → Type 0
 Bodies r i [] = Unit
-Bodies r i (g ∷ gs) = BodyAt r (extentOf (steps_of r) (entry_at r i)) g × Bodies r (i + 1) gs
+Bodies r i (g ∷ gs) = BodyAt r (extent_of (steps_of r) (entry_at r i)) g × Bodies r (i + 1) gs
 
 -- n steps of a replay, and where they leave it
-unfoldable pub playsOf : ℕ → Playing → List ℕ → List Played
-playsOf zero p r = []
-playsOf (suc n) p r = Play.next_of p r ∷ playsOf n (Play.next_of p r).playing r
+unfoldable pub plays_of : ℕ → Playing → List ℕ → List Played
+plays_of zero p r = []
+plays_of (suc n) p r = Play.next_of p r ∷ plays_of n (Play.next_of p r).playing r
 
 unfoldable pub after_of : ℕ → Playing → List ℕ → Playing
 after_of zero p r = p
@@ -41,10 +41,10 @@ pub record Replays (r : List ℕ) (n : ℕ) : Type 0 where
   pub steps : List Given
   pub count : length steps ≡ n
   pub bodies : Bodies r 0 steps
-  pub answers : map answered (playsOf n (openOf r).playing r) ≡ answersOf (fresh_of (seedOf r) (idealOf r)) steps
-  pub board : (after_of n (openOf r).playing r).board ≡ reachedOf (fresh_of (seedOf r) (idealOf r)) (map step steps)
-  pub promise : Promise (fresh_of (seedOf r) (idealOf r)) (map step steps)
-  pub beyond : Beyond (fresh_of (seedOf r) (idealOf r)) (map step steps)
+  pub answers : map answered (plays_of n (open_of r).playing r) ≡ answers_of (fresh_of (seed_of r) (ideal_of r)) steps
+  pub board : (after_of n (open_of r).playing r).board ≡ reached_of (fresh_of (seed_of r) (ideal_of r)) (map step steps)
+  pub promise : Promise (fresh_of (seed_of r) (ideal_of r)) (map step steps)
+  pub beyond : Beyond (fresh_of (seed_of r) (ideal_of r)) (map step steps)
 
 -- a replayed step from any place in any slice is one step on the board that is being played, or it leaves all and answers zero words: so it may stand in a list
 -- with direct steps

@@ -3,8 +3,8 @@ ghost use Rattle.std.specs.Prelude.{◌≡◌, Bool, ℕ, ◌+◌, ◌*◌, ◌�
 ghost use Rattle.std.specs.Float.{binary32};
 ghost use Rattle.std.specs.Float.Ieee.{of_bits};
 ghost use Rattle.board.specs.declared.Outcome.TheVariants.{Done};
-ghost use Rattle.recording.specs.Format.{steps_of, number_at, word_of, inBounds, lettersOk, openingOk, extentOf, namedTo, dacAt, inputsAt};
-ghost use Rattle.recording.specs.Play.{readyOf, closedOf, openOf, body_of, passedOf, unplayedOf, next_of};
+ghost use Rattle.recording.specs.Format.{steps_of, number_at, word_of, in_bounds, letters_ok, opening_ok, extent_of, named_to, dac_at, inputs_at};
+ghost use Rattle.recording.specs.Play.{ready_of, closed_of, open_of, body_of, passed_of, unplayed_of, next_of};
 ghost use Rattle.recording.specs.Replay.{Replays, OneCall};
 
 use board::{Analog, Answer, Inputs, Outcome};
@@ -67,21 +67,21 @@ fn input(w: u32) -> f32
 }
 
 fn in_bounds(x: u32, least: u32, most: u32) -> bool
-    ensures { result ≡ inBounds x least most }
+    ensures { result ≡ in_bounds x least most }
 {
     (least <= x) & (x <= most)
 }
 
 fn letters_ok(rec: &[u8]) -> bool
     requires { 20 ≤ length rec.now }
-    ensures { result ≡ lettersOk rec.now }
+    ensures { result ≡ letters_ok rec.now }
 {
     (rec[0] == b'R') & (rec[1] == b'V') & (rec[2] == b'B') & (rec[3] == b'R')
 }
 
 // Whether the opening is good.
 pub fn opening_ok(rec: &[u8]) -> bool
-    ensures { result ≡ openingOk rec.now }
+    ensures { result ≡ opening_ok rec.now }
 {
     if rec.len() < 20 {
         return false;
@@ -93,7 +93,7 @@ pub fn opening_ok(rec: &[u8]) -> bool
 
 // The length of a recording.
 fn extent(steps: u32, bodies: u32) -> usize
-    ensures { result ≡ extentOf steps bodies }
+    ensures { result ≡ extent_of steps bodies }
 {
     20 + 4 * (steps as usize) + 768 * (bodies as usize)
 }
@@ -101,7 +101,7 @@ fn extent(steps: u32, bodies: u32) -> usize
 // Whether each of the first `steps` entries of the contents names a body.
 fn named(rec: &[u8], steps: u32, bodies: u32) -> bool
     requires { 20 + 4 * steps ≤ length rec.now }
-    ensures { result ≡ namedTo rec.now bodies steps }
+    ensures { result ≡ named_to rec.now bodies steps }
 {
     let mut ok = true;
     let mut i: u32 = 0;
@@ -115,7 +115,7 @@ fn named(rec: &[u8], steps: u32, bodies: u32) -> bool
 // The DAC words from `o` on.
 fn dac(rec: &[u8], o: usize) -> [i32; 16]
     requires { o + 64 ≤ length rec.now }
-    ensures { result ≡ dacAt rec.now o 16 }
+    ensures { result ≡ dac_at rec.now o 16 }
 {
     let mut words = [0; 16];
     let mut i: usize = 0;
@@ -129,7 +129,7 @@ fn dac(rec: &[u8], o: usize) -> [i32; 16]
 // The four inputs from `o` on.
 fn inputs(rec: &[u8], o: usize) -> Inputs
     requires { o + 16 ≤ length rec.now }
-    ensures { result ≡ inputsAt rec.now o }
+    ensures { result ≡ inputs_at rec.now o }
 {
     Inputs {
         audio: Mix {
@@ -148,7 +148,7 @@ fn inputs(rec: &[u8], o: usize) -> Inputs
 // The recording's board, fresh, at the first step.
 fn ready(rec: &[u8]) -> Opened
     requires { 20 ≤ length rec.now }
-    ensures { result ≡ readyOf rec.now }
+    ensures { result ≡ ready_of rec.now }
 {
     let board = promise::fresh(number(rec, 8), rec[5] == 1);
     let steps = number(rec, 12);
@@ -166,7 +166,7 @@ fn ready(rec: &[u8]) -> Opened
 }
 
 fn closed(outcome: Outcome) -> Opened
-    ensures { result ≡ closedOf outcome }
+    ensures { result ≡ closed_of outcome }
 {
     let board = promise::fresh(0, false);
     Opened {
@@ -182,7 +182,7 @@ fn closed(outcome: Outcome) -> Opened
 
 // Opens a recording, or answers the lowest refusal that applies.
 pub fn open(rec: &[u8]) -> Opened
-    ensures { (result ≡ openOf rec.now) × ((n : ℕ) → result.outcome ≡ Done → n ≤ steps_of rec.now → Replays rec.now n) }
+    ensures { (result ≡ open_of rec.now) × ((n : ℕ) → result.outcome ≡ Done → n ≤ steps_of rec.now → Replays rec.now n) }
 {
     if opening_ok(rec) {
         let steps = number(rec, 12);
@@ -212,8 +212,8 @@ fn body(board: Analog, rec: &[u8], o: usize) -> Answer
 
 // The step's answer, and the place after it.
 fn passed(p: Playing, rec: &[u8], n: u32) -> Played
-    requires { (p.at + 1 < 4294967296) × (extentOf p.steps n + 768 ≤ length rec.now) }
-    ensures { result ≡ passedOf p (body_of p.board rec.now (extentOf p.steps n)) }
+    requires { (p.at + 1 < 4294967296) × (extent_of p.steps n + 768 ≤ length rec.now) }
+    ensures { result ≡ passed_of p (body_of p.board rec.now (extent_of p.steps n)) }
 {
     let board = p.board;
     let steps = p.steps;
@@ -238,7 +238,7 @@ fn passed(p: Playing, rec: &[u8], n: u32) -> Played
 }
 
 fn unplayed(p: Playing, outcome: Outcome) -> Played
-    ensures { result ≡ unplayedOf p outcome }
+    ensures { result ≡ unplayed_of p outcome }
 {
     Played {
         outcome,

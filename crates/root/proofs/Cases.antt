@@ -14,11 +14,11 @@ use lib.Ieee.Fits.{down_pos, up_pos}
 use lib.Ieee.Bits.{is_true, is_false, of_bits-to_bits, of_bits-fits}
 use lib.Ieee.Exact.{HasValue}
 use lib.Ieee.Scale.{finite}
-use Rattle.root.specs.Root.{nearestRoot, scaled, exponent, rootAt, rootBits, sqrtOf, Correct, Root}
-use Rattle.fixed.proofs.Fields.{zero_field, some-field, pattern}
+use Rattle.root.specs.Root.{nearest_root, scaled, exponent, root_at, root_bits, sqrt_of, Correct, Root}
+use Rattle.fixed.proofs.Fields.{zero_field, some_field, pattern}
 use Rattle.root.proofs.Tests.{Some}
-use Rattle.root.proofs.Middle.{le-or-lt, sqrt-rounding}
-use Rattle.root.proofs.Scaled.{Sizes, sizes, sqrt-method, sqrt-reduction}
+use Rattle.root.proofs.Middle.{le_or_lt, sqrt_rounding}
+use Rattle.root.proofs.Scaled.{Sizes, sizes, sqrt_method, sqrt_reduction}
 
 -- x is d * 2 ^ (f - 150)
 pub record Parts (x : Float) (d f : ℕ) : Type 0 where
@@ -33,25 +33,25 @@ module _ (d f : ℕ) (some : 0 < d) (few : d < 16777216) (least : 1 ≤ f) (most
   abbrev known : Sizes d f
   known = sizes d f some few least most
 
-  pub bits-lt : exponent d f * 8388608 + nearestRoot (scaled d f) < 2139095040
-  bits-lt = omega (arith, known)
+  pub bits_lt : exponent d f * 8388608 + nearest_root (scaled d f) < 2139095040
+  bits_lt = omega (arith, known)
 
-  correct-of : (p w : ℕ) (r : Float) → p * 2 ^ 149 ≡ d * 2 ^ (f - 1) * w → T (fits binary32 r) → HasValue r false (nearestRoot (scaled d f) * 2 ^ exponent d f) (2 ^ 149) → Correct p w r
-  correct-of p w nan e h v = v
-  correct-of p w (inf s) e h v = v
-  correct-of p w (fin s n k) e h v = (
+  correct_of : (p w : ℕ) (r : Float) → p * 2 ^ 149 ≡ d * 2 ^ (f - 1) * w → T (fits binary32 r) → HasValue r false (nearest_root (scaled d f) * 2 ^ exponent d f) (2 ^ 149) → Correct p w r
+  correct_of p w nan e h v = v
+  correct_of p w (inf s) e h v = v
+  correct_of p w (fin s n k) e h v = (
     v.0,
     h,
-    sqrt-rounding p w (n * up k) (down k) (scaled d f) (nearestRoot (scaled d f)) (exponent d f) (down_pos k)
-        (ap (λ (z : ℕ). z * 2 ^ 149) e ∙ mul_right_comm (d * 2 ^ (f - 1)) w (2 ^ 149) ∙ ap (λ (z : ℕ). z * w) (sqrt-reduction d f some few least most))
-        v.1 (sqrt-method d f some few least most) known.root-low known.scaled-low,
+    sqrt_rounding p w (n * up k) (down k) (scaled d f) (nearest_root (scaled d f)) (exponent d f) (down_pos k)
+        (ap (λ (z : ℕ). z * 2 ^ 149) e ∙ mul_right_comm (d * 2 ^ (f - 1)) w (2 ^ 149) ∙ ap (λ (z : ℕ). z * w) (sqrt_reduction d f some few least most))
+        v.1 (sqrt_method d f some few least most) known.root_low known.scaled_low,
   )
 
-  root-at : (p w : ℕ) → p * 2 ^ 149 ≡ d * 2 ^ (f - 1) * w → Correct p w (of_bits binary32 (rootAt d f))
-  unfolding rootAt
-  root-at p w e =
-      correct-of p w (of_bits binary32 (exponent d f * 8388608 + nearestRoot (scaled d f))) e (of_bits-fits binary32 (exponent d f * 8388608 + nearestRoot (scaled d f)))
-      (pattern (exponent d f) (nearestRoot (scaled d f)) (omega (arith, known)) known.root-low known.root-high)
+  root_at_lem : (p w : ℕ) → p * 2 ^ 149 ≡ d * 2 ^ (f - 1) * w → Correct p w (of_bits binary32 (root_at d f))
+  unfolding root_at
+  root_at_lem p w e =
+      correct_of p w (of_bits binary32 (exponent d f * 8388608 + nearest_root (scaled d f))) e (of_bits-fits binary32 (exponent d f * 8388608 + nearest_root (scaled d f)))
+      (pattern (exponent d f) (nearest_root (scaled d f)) (omega (arith, known)) known.root_low known.root_high)
 
 -- ---- the parts of a positive number
 module _ (m : ℕ) (e : ℤ) (h : T (fits binary32 (fin false (suc m) e))) where
@@ -69,9 +69,9 @@ module _ (m : ℕ) (e : ℤ) (h : T (fits binary32 (fin false (suc m) e))) where
       none p z = omega arith
   positive (suc a) b c d q cp = omega arith
 
-  not-ones : (s : Bool) (t : ℕ) → of_fields binary32 s 255 t ≡ x → ⊥
+  not_ones : (s : Bool) (t : ℕ) → of_fields binary32 s 255 t ≡ x → ⊥
   unfolding of_fields
-  not-ones s t = go (eqb t 0)
+  not_ones s t = go (eqb t 0)
     where
       go : (b : Bool) → cond b (inf s) nan ≡ x → ⊥
       go true q = true≢false (sym (ap finite q))
@@ -82,8 +82,8 @@ module _ (m : ℕ) (e : ℤ) (h : T (fits binary32 (fin false (suc m) e))) where
       let v : HasValue x s (t * 2 ^ 0) (2 ^ 149) = subst (λ (y : Float). HasValue y s (t * 2 ^ 0) (2 ^ 149)) q (zero_field s t) in
       (sym v.0, ((λ z. record { some = positive t (2 ^ 0) (2 ^ 149) (down e) v.1 (pow_pos 149); few = omega arith; least = omega arith; most = omega arith; is = (refl, v.1) }), (λ n. absurd (n refl))))
   fields s (suc f) t fl tl q =
-      let ne : f ≡ 254 → ⊥ = λ w. not-ones s t (ap (λ (y : ℕ). of_fields binary32 s (suc y) t) (sym w) ∙ q) in
-      let v : HasValue x s ((8388608 + t) * 2 ^ f) (2 ^ 149) = subst (λ (y : Float). HasValue y s ((8388608 + t) * 2 ^ f) (2 ^ 149)) q (some-field s f t (omega arith)) in
+      let ne : f ≡ 254 → ⊥ = λ w. not_ones s t (ap (λ (y : ℕ). of_fields binary32 s (suc y) t) (sym w) ∙ q) in
+      let v : HasValue x s ((8388608 + t) * 2 ^ f) (2 ^ 149) = subst (λ (y : Float). HasValue y s ((8388608 + t) * 2 ^ f) (2 ^ 149)) q (some_field s f t (omega arith)) in
       (sym v.0, ((λ z. absurd (suc-ne-zero f z)), (λ n. record { some = omega arith; few = omega arith; least = omega arith; most = omega arith; is = (refl, v.1 ∙ ap₂ (λ (y i : ℕ). y * 2 ^ i * down e) (add_comm 8388608 t) (less f)) })))
     where
       less : (f : ℕ) → f ≡ suc f - 1
@@ -111,40 +111,40 @@ module _ (m : ℕ) (e : ℤ) (h : T (fits binary32 (fin false (suc m) e))) where
       some b l h z = omega arith
 
   -- the definition, by cases
-  pub low-root : to_bits binary32 x < 8388608 → of_bits binary32 (rootAt (to_bits binary32 x) 1) ≡ sqrtOf x
-  unfolding sqrtOf rootBits
-  low-root l = rw (eqb-suc-zero m, is_true (ltb (to_bits binary32 x) 8388608) (lt→ltb (to_bits binary32 x) 8388608 l))
+  pub low_root : to_bits binary32 x < 8388608 → of_bits binary32 (root_at (to_bits binary32 x) 1) ≡ sqrt_of x
+  unfolding sqrt_of root_bits
+  low_root l = rw (eqb-suc-zero m, is_true (ltb (to_bits binary32 x) 8388608) (lt→ltb (to_bits binary32 x) 8388608 l))
 
-  pub high-root : 8388608 ≤ to_bits binary32 x → of_bits binary32 (rootAt (to_bits binary32 x % 8388608 + 8388608) (to_bits binary32 x / 8388608)) ≡ sqrtOf x
-  unfolding sqrtOf rootBits
-  high-root l = rw (eqb-suc-zero m, is_false (ltb (to_bits binary32 x) 8388608) (le→nltb (to_bits binary32 x) 8388608 l))
+  pub high_root : 8388608 ≤ to_bits binary32 x → of_bits binary32 (root_at (to_bits binary32 x % 8388608 + 8388608) (to_bits binary32 x / 8388608)) ≡ sqrt_of x
+  unfolding sqrt_of root_bits
+  high_root l = rw (eqb-suc-zero m, is_false (ltb (to_bits binary32 x) 8388608) (le→nltb (to_bits binary32 x) 8388608 l))
 
-  root-of : Correct (suc m * up e) (down e) (sqrtOf x)
-  root-of = go (le-or-lt 8388608 (to_bits binary32 x))
+  root_of : Correct (suc m * up e) (down e) (sqrt_of x)
+  root_of = go (le_or_lt 8388608 (to_bits binary32 x))
     where
-      go : (8388608 ≤ to_bits binary32 x) ⊎ (to_bits binary32 x < 8388608) → Correct (suc m * up e) (down e) (sqrtOf x)
-      go (inl h) = let p = high_parts h in subst (Correct (suc m * up e) (down e)) (high-root h) (root-at (to_bits binary32 x % 8388608 + 8388608) (to_bits binary32 x / 8388608) p.some p.few p.least p.most (suc m * up e) (down e) p.is.1)
-      go (inr l) = let p = low_parts l in subst (Correct (suc m * up e) (down e)) (low-root l) (root-at (to_bits binary32 x) 1 p.some p.few p.least p.most (suc m * up e) (down e) p.is.1)
+      go : (8388608 ≤ to_bits binary32 x) ⊎ (to_bits binary32 x < 8388608) → Correct (suc m * up e) (down e) (sqrt_of x)
+      go (inl h) = let p = high_parts h in subst (Correct (suc m * up e) (down e)) (high_root h) (root_at_lem (to_bits binary32 x % 8388608 + 8388608) (to_bits binary32 x / 8388608) p.some p.few p.least p.most (suc m * up e) (down e) p.is.1)
+      go (inr l) = let p = low_parts l in subst (Correct (suc m * up e) (down e)) (low_root l) (root_at_lem (to_bits binary32 x) 1 p.some p.few p.least p.most (suc m * up e) (down e) p.is.1)
 
 -- what holds of a number above 0
 pub record Above (x : Float) : Type 0 where
   pub low_parts : to_bits binary32 x < 8388608 → Parts x (to_bits binary32 x) 1
   pub high_parts : 8388608 ≤ to_bits binary32 x → Parts x (to_bits binary32 x % 8388608 + 8388608) (to_bits binary32 x / 8388608)
-  pub low-root : to_bits binary32 x < 8388608 → of_bits binary32 (rootAt (to_bits binary32 x) 1) ≡ sqrtOf x
-  pub high-root : 8388608 ≤ to_bits binary32 x → of_bits binary32 (rootAt (to_bits binary32 x % 8388608 + 8388608) (to_bits binary32 x / 8388608)) ≡ sqrtOf x
+  pub low_root : to_bits binary32 x < 8388608 → of_bits binary32 (root_at (to_bits binary32 x) 1) ≡ sqrt_of x
+  pub high_root : 8388608 ≤ to_bits binary32 x → of_bits binary32 (root_at (to_bits binary32 x % 8388608 + 8388608) (to_bits binary32 x / 8388608)) ≡ sqrt_of x
 
 pub above : (x : Float) → Some x → T (fits binary32 x) → Above x
 above x s h = subst Above (sym s.is) (go s.m s.e (subst (λ (y : Float). T (fits binary32 y)) s.is h))
   where
     go : (m : ℕ) (e : ℤ) → T (fits binary32 (fin false (suc m) e)) → Above (fin false (suc m) e)
-    go m e h = record { low_parts = low_parts m e h; high_parts = high_parts m e h; low-root = low-root m e h; high-root = high-root m e h }
+    go m e h = record { low_parts = low_parts m e h; high_parts = high_parts m e h; low_root = low_root m e h; high_root = high_root m e h }
 
 -- ---- every value
-pub sqrt-near : (x : Float) → T (fits binary32 x) → Root x (sqrtOf x)
-unfolding sqrtOf
-sqrt-near nan h = refl
-sqrt-near (inf true) h = refl
-sqrt-near (inf false) h = refl
-sqrt-near (fin s zero e) h = refl
-sqrt-near (fin true (suc m) e) h = rw (eqb-suc-zero m)
-sqrt-near (fin false (suc m) e) h = root-of m e h
+pub sqrt_near : (x : Float) → T (fits binary32 x) → Root x (sqrt_of x)
+unfolding sqrt_of
+sqrt_near nan h = refl
+sqrt_near (inf true) h = refl
+sqrt_near (inf false) h = refl
+sqrt_near (fin s zero e) h = refl
+sqrt_near (fin true (suc m) e) h = rw (eqb-suc-zero m)
+sqrt_near (fin false (suc m) e) h = root_of m e h

@@ -12,12 +12,12 @@ use lib.Ieee.{fin, binary32, up, down}
 use lib.Ieee.Fits.{down_pos}
 use lib.Ieee.Digits.{back}
 use Rattle.root.specs.Root.{NoneNearer, square}
-use Rattle.line.proofs.Rounds.{Rep, fits-sized}
+use Rattle.line.proofs.Rounds.{Rep, fits_sized}
 use Rattle.series.proofs.Algebra.{ac}
 use Rattle.root.proofs.Whole.{Nearest}
 
-pub le-or-lt : (a b : ℕ) → (a ≤ b) ⊎ (b < a)
-le-or-lt a b = go (leb a b) (leb→le a b) (nleb→lt a b)
+pub le_or_lt : (a b : ℕ) → (a ≤ b) ⊎ (b < a)
+le_or_lt a b = go (leb a b) (leb→le a b) (nleb→lt a b)
   where
     go : (c : Bool) → (T c → a ≤ b) → (T (not c) → b < a) → (a ≤ b) ⊎ (b < a)
     go true y n = inl (y tt)
@@ -33,13 +33,13 @@ module _ (n Y k : ℕ) (lo : 8388608 ≤ n) (u : Rep binary32 k) where
   fine h = lt_of_le_of_lt (le_of_eq u.is) (lt_of_lt_of_le (shl_lt 24 u.j u.few) (le_trans (pow_mono (omega arith)) (le_of_eq (pow-add 2 23 Y))))
 
   below : k < n * 2 ^ Y → 8388608 < n → k + 2 ^ Y ≤ n * 2 ^ Y
-  below h l = elim (le-or-lt Y u.j) [ inl c ↦ step (coarse c).0 (coarse c).1 | inr f ↦ omega (arith, fine f, mul-le-mul_right (2 ^ Y) l) ]
+  below h l = elim (le_or_lt Y u.j) [ inl c ↦ step (coarse c).0 (coarse c).1 | inr f ↦ omega (arith, fine f, mul-le-mul_right (2 ^ Y) l) ]
     where
       step : (w : ℕ) → k ≡ w * 2 ^ Y → k + 2 ^ Y ≤ n * 2 ^ Y
       step w e = let c : w < n = lt_of_mul-lt-mul_right (2 ^ Y) (subst (λ (z : ℕ). z < n * 2 ^ Y) e h) in omega (arith, mul-le-mul_right (2 ^ Y) c)
 
   above : n * 2 ^ Y < k → n * 2 ^ Y + 2 ^ Y ≤ k
-  above h = elim (le-or-lt Y u.j) [ inl c ↦ step (coarse c).0 (coarse c).1 | inr f ↦ omega (arith, fine f, mul-le-mul_right (2 ^ Y) lo) ]
+  above h = elim (le_or_lt Y u.j) [ inl c ↦ step (coarse c).0 (coarse c).1 | inr f ↦ omega (arith, fine f, mul-le-mul_right (2 ^ Y) lo) ]
     where
       step : (w : ℕ) → k ≡ w * 2 ^ Y → n * 2 ^ Y + 2 ^ Y ≤ k
       step w e = let c : n < w = lt_of_mul-lt-mul_right (2 ^ Y) (subst (λ (z : ℕ). n * 2 ^ Y < z) e h) in omega (arith, mul-le-mul_right (2 ^ Y) c)
@@ -48,14 +48,14 @@ module _ (n Y k : ℕ) (lo : 8388608 ≤ n) (u : Rep binary32 k) where
 four : (a w : ℕ) → a * a * (w * w) ≡ a * w * (a * w)
 four a w = simp ac
 
-half-under : (q n W k : ℕ) → suc n * suc n < q + suc n → k + W ≤ suc n * W → square (suc n * W + k) ≤ 4 * q * (W * W)
-half-under q n W k h l =
+half_under : (q n W k : ℕ) → suc n * suc n < q + suc n → k + W ≤ suc n * W → square (suc n * W + k) ≤ 4 * q * (W * W)
+half_under q n W k h l =
     let m : suc n * W + k ≤ (2 * n + 1) * W = omega arith in
     let s : (2 * n + 1) * (2 * n + 1) ≤ 4 * q = omega arith in
     le_trans (mul-le-mul m m) (le_trans (le_of_eq (sym (four (2 * n + 1) W))) (mul-le-mul_right (W * W) s))
 
-half-least : (q n W k : ℕ) → n * n ≤ q → k ≤ n * W → square (n * W + k) ≤ 4 * q * (W * W)
-half-least q n W k h l =
+half_least : (q n W k : ℕ) → n * n ≤ q → k ≤ n * W → square (n * W + k) ≤ 4 * q * (W * W)
+half_least q n W k h l =
     let m : n * W + k ≤ 2 * n * W = omega arith in
     let s : 2 * n * (2 * n) ≤ 4 * q = omega arith in
     le_trans (mul-le-mul m m) (le_trans (le_of_eq (sym (four (2 * n) W))) (mul-le-mul_right (W * W) s))
@@ -124,23 +124,23 @@ module _ (p w a c q n Y : ℕ) (cp : 0 < c) (ep : p * 2 ^ 149 * 2 ^ 149 ≡ q * 
       none : 8388608 ≤ 0 → ⊥
       none z = omega arith
   lower (suc n) k l h g f = elim (eq-or-lt_of_le l) [
-    | inl e ↦ half-least q (suc n) (2 ^ Y) k (subst (λ (z : ℕ). z * z ≤ q) e ql) (le_of_lt g)
-    | inr m ↦ half-under q n (2 ^ Y) k h (f m)
+    | inl e ↦ half_least q (suc n) (2 ^ Y) k (subst (λ (z : ℕ). z * z ≤ q) e ql) (le_of_lt g)
+    | inr m ↦ half_under q n (2 ^ Y) k h (f m)
   ]
 
-  pub sqrt-rounding : NoneNearer p w a c
-  sqrt-rounding =
+  pub sqrt_rounding : NoneNearer p w a c
+  sqrt_rounding =
       record {
         under =
             λ m e f h.
-            let u = fits-sized binary32 (fin false m e) f tt in
+            let u = fits_sized binary32 (fin false m e) f tt in
             let k = u.size_of in
             let l = less p w a c (m * up e) (down e) q n (2 ^ Y) k (2 ^ 149) (pow_pos 149) cp (down_pos e) ep ea u.is.1 h in
             at_most p w a c (m * up e) (down e) q n (2 ^ Y) k (2 ^ 149) (pow_pos 149) cp (down_pos e) ep ea u.is.1
             (lower n k lo r.past l (below n Y k lo u.rep l));
         over =
             λ m e f h.
-            let u = fits-sized binary32 (fin false m e) f tt in
+            let u = fits_sized binary32 (fin false m e) f tt in
             let k = u.size_of in
             let l = more p w a c (m * up e) (down e) q n (2 ^ Y) k (2 ^ 149) (pow_pos 149) cp (down_pos e) ep ea u.is.1 h in
             at_least p w a c (m * up e) (down e) q n (2 ^ Y) k (2 ^ 149) (pow_pos 149) cp (down_pos e) ep ea u.is.1

@@ -9,8 +9,8 @@ use lib.Dec.{T, eqb, eqb→eq, eqb-suc-zero}
 use lib.Ieee.{Float, nan, inf, fin, up, down, eq, lt, le, level, is_nan}
 use lib.Ieee.Fits.{and_l, up_pos}
 use lib.Ieee.Scale.{finite}
-use Rattle.fixed.proofs.Order.{on, off, lt-says, not-lt, le-says}
-use Rattle.root.specs.Root.{sqrtOf}
+use Rattle.fixed.proofs.Order.{on, off, lt_says, not_lt, le_says}
+use Rattle.root.specs.Root.{sqrt_of}
 
 abbrev nought : Float
 nought = fin false 0 (pos 0)
@@ -39,46 +39,46 @@ some nan a b = absurd (true≢false (sym a))
 some (inf true) a b = absurd (true≢false (sym a))
 some (inf false) a b = absurd (true≢false b)
 some (fin true m e) a b = absurd (true≢false (sym a))
-some (fin false zero e) a b = absurd (none (lt-says false 0 (pos 0) false 0 e (on a)))
+some (fin false zero e) a b = absurd (none (lt_says false 0 (pos 0) false 0 e (on a)))
   where
     none : 0 * 1 * down e < 0 * up e * 1 → ⊥
     none h = omega arith
 some (fin false (suc m) e) a b = record { m = m; e = e; is = refl }
 
-pub infinite-root : (x : Float) → le (inf false) x ≡ true → x ≡ sqrtOf x
-unfolding le lt eq sqrtOf
-infinite-root nan h = refl
-infinite-root (inf true) h = absurd (true≢false (sym h))
-infinite-root (inf false) h = refl
-infinite-root (fin s m e) h = absurd (true≢false (sym h))
+pub infinite_root : (x : Float) → le (inf false) x ≡ true → x ≡ sqrt_of x
+unfolding le lt eq sqrt_of
+infinite_root nan h = refl
+infinite_root (inf true) h = absurd (true≢false (sym h))
+infinite_root (inf false) h = refl
+infinite_root (fin s m e) h = absurd (true≢false (sym h))
 
-pub zero-root : (x : Float) → eq x nought ≡ true → x ≡ sqrtOf x
-unfolding eq sqrtOf
-zero-root nan h = refl
-zero-root (inf s) h = absurd (true≢false (sym h))
-zero-root (fin s zero e) h = refl
-zero-root (fin s (suc m) e) h = absurd (none (eqb→eq (suc m * up e * 1) (0 * 1 * down e) (and_l (eqb (suc m * up e * 1) (0 * 1 * down e)) (beq s false || eqb (suc m * up e * 1) 0) (on h))))
+pub zero_root : (x : Float) → eq x nought ≡ true → x ≡ sqrt_of x
+unfolding eq sqrt_of
+zero_root nan h = refl
+zero_root (inf s) h = absurd (true≢false (sym h))
+zero_root (fin s zero e) h = refl
+zero_root (fin s (suc m) e) h = absurd (none (eqb→eq (suc m * up e * 1) (0 * 1 * down e) (and_l (eqb (suc m * up e * 1) (0 * 1 * down e)) (beq s false || eqb (suc m * up e * 1) 0) (on h))))
   where
     none : suc m * up e * 1 ≡ 0 * 1 * down e → ⊥
     none z = omega (arith, above m e)
 
 -- what is neither above 0 nor 0 has no root
-zero-eq : (s : Bool) (e : ℤ) → eq (fin s 0 e) nought ≡ true
+zero_eq : (s : Bool) (e : ℤ) → eq (fin s 0 e) nought ≡ true
 unfolding eq
-zero-eq s e = ap₂ (λ (a b : ℕ). level s a false b) (ap (λ (z : ℕ). z * 1) (zero-mul (up e))) (zero-mul (down e)) ∙ at_zero s
+zero_eq s e = ap₂ (λ (a b : ℕ). level s a false b) (ap (λ (z : ℕ). z * 1) (zero-mul (up e))) (zero-mul (down e)) ∙ at_zero s
   where
     at_zero : (s : Bool) → level s 0 false 0 ≡ true
     at_zero true = refl
     at_zero false = refl
 
-pub no-root : (x : Float) → lt nought x ≡ false → eq x nought ≡ false → nan ≡ sqrtOf x
-unfolding lt sqrtOf is_nan
-no-root nan a b = refl
-no-root (inf true) a b = refl
-no-root (inf false) a b = absurd (true≢false a)
-no-root (fin s zero e) a b = absurd (no (zero-eq s e) b)
-no-root (fin true (suc m) e) a b = rw (eqb-suc-zero m)
-no-root (fin false (suc m) e) a b = absurd (none (le-says false (suc m) e false 0 (pos 0) (not-lt nought (fin false (suc m) e) tt tt (off a))))
+pub no_root : (x : Float) → lt nought x ≡ false → eq x nought ≡ false → nan ≡ sqrt_of x
+unfolding lt sqrt_of is_nan
+no_root nan a b = refl
+no_root (inf true) a b = refl
+no_root (inf false) a b = absurd (true≢false a)
+no_root (fin s zero e) a b = absurd (no (zero_eq s e) b)
+no_root (fin true (suc m) e) a b = rw (eqb-suc-zero m)
+no_root (fin false (suc m) e) a b = absurd (none (le_says false (suc m) e false 0 (pos 0) (not_lt nought (fin false (suc m) e) tt tt (off a))))
   where
     none : suc m * up e * 1 ≤ 0 * 1 * down e → ⊥
     none z = omega (arith, above m e)

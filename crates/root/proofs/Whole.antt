@@ -5,7 +5,7 @@ use Prim.Native.Nat.{ℕ, zero, suc, ◌+◌, ◌*◌, ◌/◌, ◌^◌, ◌≤�
 use native.Mathlib.Nat.{le_antisymm, le_of_suc-le-suc, lt_irrefl, lt_of_lt_of_le, lt_of_not-le, mul-le-mul, mul-le-mul_left, mul-le-mul_right, pow-suc, div-lt_iff_lt-mul}
 use native.Mathlib.Omega.{arith}
 use lib.Dec.{T, leb, ltb, leb→le, ltb→lt, nleb→lt, nltb→le, lit<}
-use Rattle.root.specs.Root.{digit, floorRoot, nearer, nearestRoot}
+use Rattle.root.specs.Root.{digit, floor_root, nearer, nearest_root}
 
 -- n is nearest to the root of q
 pub record Nearest (q n : ℕ) : Type 0 where
@@ -17,20 +17,20 @@ pub record Nearest (q n : ℕ) : Type 0 where
 double : (g q : ℕ) → g * g ≤ q / 4 → q / 4 < suc g * suc g → (2 * g * (2 * g) ≤ q) × (q < suc (suc (2 * g)) * suc (suc (2 * g)))
 double g q h k = (omega arith, omega arith)
 
-digit-is : (q f : ℕ) → f * f ≤ q → q < suc (suc f) * suc (suc f) → (digit q f * digit q f ≤ q) × (q < suc (digit q f) * suc (digit q f))
-digit-is q f h k = go (leb (suc f * suc f) q) (leb→le (suc f * suc f) q) (nleb→lt (suc f * suc f) q)
+digit_is : (q f : ℕ) → f * f ≤ q → q < suc (suc f) * suc (suc f) → (digit q f * digit q f ≤ q) × (q < suc (digit q f) * suc (digit q f))
+digit_is q f h k = go (leb (suc f * suc f) q) (leb→le (suc f * suc f) q) (nleb→lt (suc f * suc f) q)
   where
     go : (b : Bool) → (T b → suc f * suc f ≤ q) → (T (not b) → q < suc f * suc f) → (cond b (suc f) f * cond b (suc f) f ≤ q) × (q < suc (cond b (suc f) f) * suc (cond b (suc f) f))
     go true y n = (y tt, k)
     go false y n = (h, n tt)
 
-floor-is : (k q : ℕ) → q < 4 ^ k → (floorRoot k q * floorRoot k q ≤ q) × (q < suc (floorRoot k q) * suc (floorRoot k q))
-unfolding floorRoot
-floor-is zero q h = (omega arith, omega arith)
-floor-is (suc k) q h =
-    let i = floor-is k (q / 4) ((div-lt_iff_lt-mul (lit< tt)).1 (rw pow-suc at h)) in
-    let d = double (floorRoot k (q / 4)) q i.0 i.1 in
-    digit-is q (2 * floorRoot k (q / 4)) d.0 d.1
+floor_is : (k q : ℕ) → q < 4 ^ k → (floor_root k q * floor_root k q ≤ q) × (q < suc (floor_root k q) * suc (floor_root k q))
+unfolding floor_root
+floor_is zero q h = (omega arith, omega arith)
+floor_is (suc k) q h =
+    let i = floor_is k (q / 4) ((div-lt_iff_lt-mul (lit< tt)).1 (rw pow-suc at h)) in
+    let d = double (floor_root k (q / 4)) q i.0 i.1 in
+    digit_is q (2 * floor_root k (q / 4)) d.0 d.1
 
 -- ---- the nearest
 
@@ -39,29 +39,29 @@ small : {q : ℕ} (f : ℕ) → 0 < q → f * f ≤ q → q ≤ f * f + f → f 
 small zero p h k = omega arith
 small (suc f) p h k = omega arith
 
-nearer-is : (q f : ℕ) → 0 < q → f * f ≤ q → q < suc f * suc f → Nearest q (nearer q f)
-nearer-is q f p h k = go (ltb (f * f + f) q) (ltb→lt (f * f + f) q) (nltb→le (f * f + f) q)
+nearer_is : (q f : ℕ) → 0 < q → f * f ≤ q → q < suc f * suc f → Nearest q (nearer q f)
+nearer_is q f p h k = go (ltb (f * f + f) q) (ltb→lt (f * f + f) q) (nltb→le (f * f + f) q)
   where
     go : (b : Bool) → (T b → f * f + f < q) → (T (not b) → q ≤ f * f + f) → Nearest q (cond b (suc f) f)
     go true y n = let l = y tt in record { past = omega arith; short = omega arith }
     go false y n = let l = n tt in record { past = small f p h l; short = l }
 
-pub root_is : (q : ℕ) → 0 < q → q < 281474976710656 → Nearest q (nearestRoot q)
-unfolding nearestRoot
-root_is q p h = let i = floor-is 24 q h in nearer-is q (floorRoot 24 q) p i.0 i.1
+pub root_is : (q : ℕ) → 0 < q → q < 281474976710656 → Nearest q (nearest_root q)
+unfolding nearest_root
+root_is q p h = let i = floor_is 24 q h in nearer_is q (floor_root 24 q) p i.0 i.1
 
-no-larger : (q n m : ℕ) → Nearest q n → Nearest q m → m ≤ n
-no-larger q n m a b = le_of_suc-le-suc (lt_of_not-le (λ (g : suc n ≤ m). clash g (mul-le-mul_left m g) (mul-le-mul_right n g)))
+no_larger : (q n m : ℕ) → Nearest q n → Nearest q m → m ≤ n
+no_larger q n m a b = le_of_suc-le-suc (lt_of_not-le (λ (g : suc n ≤ m). clash g (mul-le-mul_left m g) (mul-le-mul_right n g)))
   where
     clash : suc n ≤ m → m * suc n ≤ m * m → suc n * n ≤ m * n → ⊥
     clash g h k = omega (arith, a.short, b.past)
 
 -- so to count up or down to it gives the same number
-pub one-nearest : (q n m : ℕ) → Nearest q n → Nearest q m → n ≡ m
-one-nearest q n m a b = le_antisymm (no-larger q m n b a) (no-larger q n m a b)
+pub one_nearest : (q n m : ℕ) → Nearest q n → Nearest q m → n ≡ m
+one_nearest q n m a b = le_antisymm (no_larger q m n b a) (no_larger q n m a b)
 
-pub root-lt : (n : ℕ) → n * n < 281474976710656 → n < 16777216
-root-lt n h = lt_of_not-le (λ (g : 16777216 ≤ n). lt_irrefl (n * n) (lt_of_lt_of_le h (mul-le-mul g g)))
+pub root_lt : (n : ℕ) → n * n < 281474976710656 → n < 16777216
+root_lt n h = lt_of_not-le (λ (g : 16777216 ≤ n). lt_irrefl (n * n) (lt_of_lt_of_le h (mul-le-mul g g)))
 
 -- a square of up to 24 digits, and one above 0
 pub square_le : (n : ℕ) → n ≤ 16777216 → n * n ≤ 281474976710656

@@ -11,18 +11,18 @@ abbrev pub digit : ℕ → ℕ → ℕ
 digit q f = cond (leb (suc f * suc f) q) (suc f) f
 
 -- the whole part of the root of q, for a q below 4 ^ k
-unfoldable pub floorRoot : ℕ → ℕ → ℕ
-floorRoot zero q = 0
-floorRoot (suc k) q = digit q (2 * floorRoot k (q / 4))
+unfoldable pub floor_root : ℕ → ℕ → ℕ
+floor_root zero q = 0
+floor_root (suc k) q = digit q (2 * floor_root k (q / 4))
 
 -- f, or the next number if the root of q is past the middle: (f + 1/2)² is f² + f + 1/4
 abbrev pub nearer : ℕ → ℕ → ℕ
 nearer q f = cond (ltb (f * f + f) q) (suc f) f
 
 -- the whole number nearest to the root of q, for a q below 2 ^ 48
-unfoldable pub nearestRoot : ℕ → ℕ
-unfolding floorRoot
-nearestRoot q = nearer q (floorRoot 24 q)
+unfoldable pub nearest_root : ℕ → ℕ
+unfolding floor_root
+nearest_root q = nearer q (floor_root 24 q)
 
 -- The number d * 2 ^ (x - 150), for a d of up to 24 digits. By an even power of two it is brought to q, of 47 or 48 digits: then its root is that of q, of 24 digits, times 2 ^ (exponent - 149).
 abbrev pub odd : ℕ → ℕ → ℕ
@@ -35,21 +35,21 @@ abbrev pub exponent : ℕ → ℕ → ℕ
 exponent d x = (x + 165 - count_leading_zeros 64 d - odd d x) / 2
 
 -- the pattern of its root
-unfoldable pub rootAt : ℕ → ℕ → ℕ
-unfolding nearestRoot
-rootAt d x = exponent d x * 8388608 + nearestRoot (scaled d x)
+unfoldable pub root_at : ℕ → ℕ → ℕ
+unfolding nearest_root
+root_at d x = exponent d x * 8388608 + nearest_root (scaled d x)
 
 -- by the pattern of the argument: the digits and the exponent's field, where a field of 0 counts as 1
-unfoldable pub rootBits : ℕ → ℕ
-unfolding rootAt
-rootBits b = cond (ltb b 8388608) (rootAt b 1) (rootAt (b % 8388608 + 8388608) (b / 8388608))
+unfoldable pub root_bits : ℕ → ℕ
+unfolding root_at
+root_bits b = cond (ltb b 8388608) (root_at b 1) (root_at (b % 8388608 + 8388608) (b / 8388608))
 
 -- a zero is its own root; of a negative number there is none
-unfoldable pub sqrtOf : Float → Float
-unfolding rootBits
-sqrtOf nan = nan
-sqrtOf (inf s) = cond s nan (inf false)
-sqrtOf (fin s m e) = cond (eqb m 0) (fin s m e) (cond s nan (of_bits binary32 (rootBits (to_bits binary32 (fin s m e)))))
+unfoldable pub sqrt_of : Float → Float
+unfolding root_bits
+sqrt_of nan = nan
+sqrt_of (inf s) = cond s nan (inf false)
+sqrt_of (fin s m e) = cond (eqb m 0) (fin s m e) (cond s nan (of_bits binary32 (root_bits (to_bits binary32 (fin s m e)))))
 
 -- ---- what it means
 

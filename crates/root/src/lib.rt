@@ -1,6 +1,6 @@
 // The square root of an f32, by the whole number nearest to the root of a scaled significand.
 ghost use Rattle.std.specs.Prelude.{◌≡◌, ◌+◌, ◌*◌, ◌^◌, ◌<◌, ◌≤◌};
-ghost use Rattle.root.specs.Root.{nearestRoot, rootAt, sqrtOf, Root};
+ghost use Rattle.root.specs.Root.{nearest_root, root_at, sqrt_of, Root};
 
 // The line nearest to the root from 1 to 2, and that times the root of 2 from 2 to 4: within one part in 130.
 fn line(z: f32) -> f32 {
@@ -33,7 +33,7 @@ fn guess(p: u32) -> u64
 // The whole number nearest to the root of q, counted up or down from g.
 fn nearest_root(q: u64, g: u64) -> u64
     requires { (0 < q) × (q < 281474976710656) × (g < 16777216) }
-    ensures { result ≡ nearestRoot q }
+    ensures { result ≡ nearest_root q }
 {
     let mut n = g;
     while q + n <= n * n {
@@ -48,7 +48,7 @@ fn nearest_root(q: u64, g: u64) -> u64
 // The pattern of the root of d * 2^(x - 150).
 fn root_bits(d: u64, x: u64) -> u64
     requires { (0 < d) × (d < 16777216) × (1 ≤ x) × (x ≤ 254) }
-    ensures { (result ≡ rootAt d x) × (result < 2139095040) }
+    ensures { (result ≡ root_at d x) × (result < 2139095040) }
 {
     let z = u64::leading_zeros(d) as u64;
     let odd = (x + z + 1) % 2;
@@ -60,7 +60,7 @@ fn root_bits(d: u64, x: u64) -> u64
 
 // The square root, correctly rounded.
 pub fn sqrt(x: f32) -> f32
-    ensures is { result ≡ sqrtOf x }
+    ensures is { result ≡ sqrt_of x }
     ensures nearest { Root x result }
 {
     if x > 0.0 {

@@ -2,11 +2,11 @@
 use Rattle.std.specs.Prelude.{ℕ, zero, suc, ◌+◌, ◌*◌, ◌^◌}
 
 -- the sum, j from 0 to n, of (x / z) ^ j / j! is expNum n x z / expDen n z
-unfoldable pub expNum : ℕ → ℕ → ℕ → ℕ
-expNum zero x z = 1
-expNum (suc n) x z = expNum n x z * (suc n * z) + x ^ suc n
+unfoldable pub exp_num : ℕ → ℕ → ℕ → ℕ
+exp_num zero x z = 1
+exp_num (suc n) x z = exp_num n x z * (suc n * z) + x ^ suc n
 
 -- n! * z ^ n
-unfoldable pub expDen : ℕ → ℕ → ℕ
-expDen zero z = 1
-expDen (suc n) z = expDen n z * (suc n * z)
+unfoldable pub exp_den : ℕ → ℕ → ℕ
+exp_den zero z = 1
+exp_den (suc n) z = exp_den n z * (suc n * z)

@@ -7,9 +7,9 @@ use native.Mathlib.Nat.{le_dest, le_of_lt, le_trans, mul-le-mul, mul-le-mul_left
 use native.Mathlib.Omega.{arith}
 use lib.Dec.{T, leb, leb→le, nleb→lt, lit<, lit≤}
 use Rattle.series.proofs.Algebra.{ac}
-use Rattle.sine.specs.Sine.{quarter31, sincOf, sineFix}
-use Rattle.sine.proofs.Nested.{nested, head, tail, nested-le}
-use Rattle.sine.proofs.Pairs.{terms, pairs-near}
+use Rattle.sine.specs.Sine.{quarter31, sinc_of, sine_fix}
+use Rattle.sine.proofs.Nested.{nested, head, tail, nested_le}
+use Rattle.sine.proofs.Pairs.{terms, pairs_near}
 
 cubic : (z w : ℕ) → 3 * z * (w * w) ≤ z * z * z + 2 * (w * w * w)
 cubic z w = go (leb z w) (leb→le z w) (nleb→lt z w)
@@ -29,8 +29,8 @@ step : (z y v u k w P : ℕ) → y * P + u * v ≤ P * P + P → k ≤ u → z *
 step z y v u k w P h₁ h₂ h₃ =
     simp ac (omega (arith, simp ac at (mul-le-mul_right (z * P) h₁), simp ac at (mul-le-mul_right (v * z * P) h₂), simp ac at (mul-le-mul_right (k * z) h₃), simp ac at (mul-le-mul_right k (cubic z w))))
 
-at-end : (t a s g c z e : ℕ) → t + a * z ≤ s * z + e → s ≤ a + g → z ≤ c → t ≤ g * c + e
-at-end t a s g c z e h k l =
+at_end : (t a s g c z e : ℕ) → t + a * z ≤ s * z + e → s ≤ a + g → z ≤ c → t ≤ g * c + e
+at_end t a s g c z e h k l =
     let x = mul-le-mul_right z k in
     let y = mul-le-mul_left g l in
     omega arith
@@ -38,22 +38,22 @@ at-end t a s g c z e h k l =
 abbrev P : ℕ
 P = 4294967296
 
-top-step : (y r u v : ℕ) → y + r ≡ P → u * v ≤ r * P + P → y * P + u * v ≤ P * P + P
-top-step y r u v e h = omega arith
+top_step : (y r u v : ℕ) → y + r ≡ P → u * v ≤ r * P + P → y * P + u * v ≤ P * P + P
+top_step y r u v e h = omega arith
 
 -- the series from its second coefficient on
 abbrev rest : List ℕ
 rest = tail terms
 
-second-step : (y v : ℕ) → y ≤ head (tail rest) → v ≤ 2649351758 → 2510064631 ≤ head rest - y * v / P
-second-step y v h k = omega (arith, mul-le-mul h k)
+second_step : (y v : ℕ) → y ≤ head (tail rest) → v ≤ 2649351758 → 2510064631 ≤ head rest - y * v / P
+second_step y v h k = omega (arith, mul-le-mul h k)
 
-rest-low : (v : ℕ) → v ≤ 2649351758 → 2510064631 ≤ nested P rest v
+rest_low : (v : ℕ) → v ≤ 2649351758 → 2510064631 ≤ nested P rest v
 unfolding nested
-rest-low v h = second-step (nested P (tail rest) v) v (nested-le P (tail rest) v) h
+rest_low v h = second_step (nested P (tail rest) v) v (nested_le P (tail rest) v) h
 
-rest-small : (v : ℕ) → v ≤ P → nested P rest v * v / P ≤ P
-rest-small v h = div-le_of_le-mul P (mul-le-mul {n₂ = P} (le_trans (nested-le P rest v) (lit≤ tt)) h)
+rest_small : (v : ℕ) → v ≤ P → nested P rest v * v / P ≤ P
+rest_small v h = div-le_of_le-mul P (mul-le-mul {n₂ = P} (le_trans (nested_le P rest v) (lit≤ tt)) h)
 
 product_high : (z : ℕ) → z ≤ quarter31 → z * nested P terms (z * z / P) ≤ 9295978702241747062
 unfolding nested
@@ -64,17 +64,17 @@ product_high z h =
     let w : ℕ = 3221225472 in
     let k : ℕ = 2510064631 in
     le_of_mul-le-mul_right {k = P * P}
-    (le_trans (at-end (z * (P - r) * (P * P)) (3 * k * (w * w)) (P * P * P + P * P + k * P) 1092660285602072986298351616 quarter31 z (2 * k * (w * w * w))
-    (step z (P - r) v (nested P rest v) k w P (top-step (P - r) r (nested P rest v) v (sub-add_cancel (rest-small v (le_trans vl (lit≤ tt)))) (le_of_lt (lt-div-mul-add {a = nested P rest v * v} {b = P} (lit< tt)))) (rest-low v vl) (le_of_lt (lt-div-mul-add {a = z * z} {b = P} (lit< tt))))
+    (le_trans (at_end (z * (P - r) * (P * P)) (3 * k * (w * w)) (P * P * P + P * P + k * P) 1092660285602072986298351616 quarter31 z (2 * k * (w * w * w))
+    (step z (P - r) v (nested P rest v) k w P (top_step (P - r) r (nested P rest v) v (sub-add_cancel (rest_small v (le_trans vl (lit≤ tt)))) (le_of_lt (lt-div-mul-add {a = nested P rest v * v} {b = P} (lit< tt)))) (rest_low v vl) (le_of_lt (lt-div-mul-add {a = z * z} {b = P} (lit< tt))))
     (lit≤ tt) h)
     (lit≤ tt))
     (lit< tt)
 
 -- in Q63, by pairs
-pub sine-high : (z : ℕ) → z ≤ quarter31 → 1000 * sineFix z ≤ 9297159013149614014464
-unfolding sineFix
-sine-high z h =
-    top z (sincOf (z * z / P)) (nested P terms (z * z / P)) h (product_high z h) (pairs-near (z * z / P) (div-le_of_le-mul P (le_trans (mul-le-mul h h) (lit≤ tt)))).0
+pub sine_high : (z : ℕ) → z ≤ quarter31 → 1000 * sine_fix z ≤ 9297159013149614014464
+unfolding sine_fix
+sine_high z h =
+    top z (sinc_of (z * z / P)) (nested P terms (z * z / P)) h (product_high z h) (pairs_near (z * z / P) (div-le_of_le-mul P (le_trans (mul-le-mul h h) (lit≤ tt)))).0
   where
     top : (z x y : ℕ) → z ≤ quarter31 → z * y ≤ 9295978702241747062 → x ≤ y + 243 → 1000 * (z * x + 1) ≤ 9297159013149614014464
     top z x y h l k = omega (arith, mul-le-mul_left z k)

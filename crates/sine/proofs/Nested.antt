@@ -37,14 +37,14 @@ unfoldable pub slack : ℕ → List ℕ → ℕ
 slack w [] = 0
 slack w (b ∷ bs) = slack w bs + (w + 2)
 
-pub nested-le : (P : ℕ) (bs : List ℕ) (v : ℕ) → nested P bs v ≤ head bs
+pub nested_le : (P : ℕ) (bs : List ℕ) (v : ℕ) → nested P bs v ≤ head bs
 unfolding nested
-nested-le P [] v = le_refl 0
-nested-le P (b ∷ bs) v = sub-le b (nested P bs v * v / P)
+nested_le P [] v = le_refl 0
+nested_le P (b ∷ bs) v = sub-le b (nested P bs v * v / P)
 
-alternating-le : (k : ℕ) (l : List ℕ) (s z : ℕ) → alternating (k ∷ l) s z ≤ k * z ^ length l
+alternating_le : (k : ℕ) (l : List ℕ) (s z : ℕ) → alternating (k ∷ l) s z ≤ k * z ^ length l
 unfolding alternating
-alternating-le k l s z = sub-le (k * z ^ length l) (s * alternating l s z)
+alternating_le k l s z = sub-le (k * z ^ length l) (s * alternating l s z)
 
 module _ (P K u w s z v : ℕ) (pp : 0 < P) (up : 0 < u) (lo : u * v * z ≤ P * s + u * w * z) (hi : P * s ≤ u * v * z + u * w * z) (vp : v ≤ P) (su : s ≤ u * z) where
   -- no difference of the exact polynomial is cut at 0
@@ -52,14 +52,14 @@ module _ (P K u w s z v : ℕ) (pp : 0 < P) (up : 0 < u) (lo : u * v * z ≤ P *
   unfolding alternating
   no_less k [] h = omega arith
   no_less k (k' ∷ ks) h =
-      rw pow-suc (le_trans (mul-le-mul su (alternating-le k' ks s z)) (le_trans (le_of_eq (shuffle u z k' (z ^ length ks))) (mul-le-mul_right (z ^ length ks * z) h)))
+      rw pow-suc (le_trans (mul-le-mul su (alternating_le k' ks s z)) (le_trans (le_of_eq (shuffle u z k' (z ^ length ks))) (mul-le-mul_right (z ^ length ks * z) h)))
     where
       shuffle : (u z k Z : ℕ) → u * z * (k * Z) ≡ u * k * (Z * z)
       shuffle u z k Z = simp ac
 
   -- the product, from above and from below
-  product-low : (c y r Z N e : ℕ) → r * P ≤ y * v → y ≤ P → y * K * Z ≤ P * (u * c) * N * z + e * K * Z → r * K * (Z * z) ≤ P * c * (s * N) * z + (e + w) * K * (Z * z)
-  product-low c y r Z N e h₁ h₂ h₃ =
+  product_low : (c y r Z N e : ℕ) → r * P ≤ y * v → y ≤ P → y * K * Z ≤ P * (u * c) * N * z + e * K * Z → r * K * (Z * z) ≤ P * c * (s * N) * z + (e + w) * K * (Z * z)
+  product_low c y r Z N e h₁ h₂ h₃ =
       le_of_mul-le-mul_right {k = u * P}
       (simp ac (omega (arith, simp ac at (mul-le-mul_right (u * K * Z * z) h₁), simp ac at (mul-le-mul_right (y * K * Z) lo), simp ac at (mul-le-mul_right (P * s) h₃), simp ac at (mul-le-mul_right (u * w * z * K * Z) h₂), simp ac at (mul-le-mul_right (P * e * K * Z) su))))
       (mul-pos up pp)
@@ -82,14 +82,14 @@ module _ (P K u w s z v : ℕ) (pp : 0 < P) (up : 0 < u) (lo : u * v * z ≤ P *
       let l' = simp ac at l in
       let h' = simp ac at h in (simp ac (omega arith), simp ac (omega arith))
 
-  pub nested-near : (c : ℕ) (bs ks : List ℕ) → T (fit P K u c bs ks)
+  pub nested_near : (c : ℕ) (bs ks : List ℕ) → T (fit P K u c bs ks)
       → (nested P bs v * K * z ^ length ks ≤ P * c * alternating ks s z * z + slack w bs * K * z ^ length ks)
       × (P * c * alternating ks s z * z ≤ nested P bs v * K * z ^ length ks + slack w bs * K * z ^ length ks)
   unfolding nested alternating slack
-  nested-near c [] [] t = (omega arith, omega arith)
-  nested-near c [] (k ∷ ks) t = absurd t
-  nested-near c (b ∷ bs) [] t = absurd t
-  nested-near c (b ∷ bs) (k ∷ ks) t =
+  nested_near c [] [] t = (omega arith, omega arith)
+  nested_near c [] (k ∷ ks) t = absurd t
+  nested_near c (b ∷ bs) [] t = absurd t
+  nested_near c (b ∷ bs) (k ∷ ks) t =
       let p₁ : Bool = leb (b * K) (P * c * k + K) in
       let p₂ : Bool = leb (P * c * k) (b * K + K) in
       let p₃ : Bool = leb b P in
@@ -100,9 +100,9 @@ module _ (P K u w s z v : ℕ) (pp : 0 < P) (up : 0 < u) (lo : u * v * z ≤ P *
       let t₂ = and_r p₂ (p₃ && (p₄ && (p₅ && p₆))) t₁ in
       let t₃ = and_r p₃ (p₄ && (p₅ && p₆)) t₂ in
       let t₄ = and_r p₄ (p₅ && p₆) t₃ in
-      let ih = nested-near (u * c) bs ks (and_r p₅ p₆ t₄) in
+      let ih = nested_near (u * c) bs ks (and_r p₅ p₆ t₄) in
       let y = nested P bs v in
-      let yb : y ≤ b = le_trans (nested-le P bs v) (leb→le (head bs) b (and_l p₄ (p₅ && p₆) t₃)) in
+      let yb : y ≤ b = le_trans (nested_le P bs v) (leb→le (head bs) b (and_l p₄ (p₅ && p₆) t₃)) in
       let yp : y ≤ P = le_trans yb (leb→le b P (and_l p₃ (p₄ && (p₅ && p₆)) t₂)) in
       let rb : y * v / P ≤ b = le_trans (div-le_of_le-mul P (le_trans (mul-le-mul_left y vp) (le_of_eq (mul_comm y P)))) yb in
       rw pow-suc
@@ -111,5 +111,5 @@ module _ (P K u w s z v : ℕ) (pp : 0 < P) (up : 0 < u) (lo : u * v * z ≤ P *
       (sub-add_cancel (no_less k ks (leb→le (u * head ks) k (and_l p₅ p₆ t₄))))
       (leb→le (b * K) (P * c * k + K) (and_l p₁ (p₂ && (p₃ && (p₄ && (p₅ && p₆)))) t))
       (leb→le (P * c * k) (b * K + K) (and_l p₂ (p₃ && (p₄ && (p₅ && p₆))) t₁))
-      (product-low c y (y * v / P) (z ^ length ks) (alternating ks s z) (slack w bs) (div-mul-le_self (y * v) P) yp ih.0)
+      (product_low c y (y * v / P) (z ^ length ks) (alternating ks s z) (slack w bs) (div-mul-le_self (y * v) P) yp ih.0)
       (product_high c y (y * v / P) (z ^ length ks) (alternating ks s z) (slack w bs) (le_of_lt (lt-div-mul-add {a = y * v} pp)) yp ih.1))

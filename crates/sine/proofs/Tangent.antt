@@ -12,69 +12,69 @@ use lib.Ieee.{Float, nan, inf, fin, up, down}
 use Rattle.series.specs.Near.{Relative}
 use Rattle.series.proofs.Algebra.{ac, loosen}
 use Rattle.sine.specs.Series.{paired}
-use Rattle.sine.specs.Exact.{unit, quarter, oddNum, oddDen, sineNum, sincNum, sincDen}
-use Rattle.sine.specs.Sine.{quarter31, sincOf, sineFix, ratioOf}
-use Rattle.sine.proofs.Method.{odd-le}
-use Rattle.sine.proofs.Small.{no-turns, all_rest, sine-is, own-series}
-use Rattle.sine.proofs.Quotient.{cosFix, cos-low, cos-below, cos-above, tan-method}
+use Rattle.sine.specs.Exact.{unit, quarter, odd_num, odd_den, sine_num, sinc_num, sinc_den}
+use Rattle.sine.specs.Sine.{quarter31, sinc_of, sine_fix, ratio_of}
+use Rattle.sine.proofs.Method.{odd_le}
+use Rattle.sine.proofs.Small.{no_turns, all_rest, sine_is, own_series}
+use Rattle.sine.proofs.Quotient.{cos_fix, cos_low, cos_below, cos_above, tan_method}
 
 -- the float is R / t, and dg * r / K is a * r / (c * P)
-digits-high : (b B R t q K c P a r : ℕ) → 0 < K → b * R * K ≤ B * q * t → q * (c * P) ≡ a * r * K → b * (R * (c * P)) ≤ B * (a * r * t)
-digits-high b B R t q K c P a r kp h e = le_of_mul-le-mul_right {k = K} (simp ac (omega (arith, simp ac at (mul-le-mul_right (c * P) h), simp ac at (ap (λ (z : ℕ). z * (B * t)) e)))) kp
+digits_high : (b B R t q K c P a r : ℕ) → 0 < K → b * R * K ≤ B * q * t → q * (c * P) ≡ a * r * K → b * (R * (c * P)) ≤ B * (a * r * t)
+digits_high b B R t q K c P a r kp h e = le_of_mul-le-mul_right {k = K} (simp ac (omega (arith, simp ac at (mul-le-mul_right (c * P) h), simp ac at (ap (λ (z : ℕ). z * (B * t)) e)))) kp
 
 digits_low : (b B R t q K c P a r : ℕ) → 0 < K → b * q * t ≤ B * R * K → q * (c * P) ≡ a * r * K → b * (a * r * t) ≤ B * (R * (c * P))
 digits_low b B R t q K c P a r kp h e = le_of_mul-le-mul_right {k = K} (simp ac (omega (arith, simp ac at (mul-le-mul_right (c * P) h), simp ac at (ap (λ (z : ℕ). z * (b * t)) e)))) kp
 
-join-high : (b B β β' R t c P a r D N num U : ℕ) → 0 < c * P * D → b * (R * (c * P)) ≤ B * (a * r * t) → β * (r * D * num) ≤ β' * (P * N * (c * U * D)) → b * β * (R * num) ≤ B * β' * (a * U * N * t)
-join-high b B β β' R t c P a r D N num U p h k = le_of_mul-le-mul_right {k = c * P * D} (simp ac (omega (arith, simp ac at (mul-le-mul_right (β * D * num) h), simp ac at (mul-le-mul_right (B * a * t) k)))) p
+join_high : (b B β β' R t c P a r D N num U : ℕ) → 0 < c * P * D → b * (R * (c * P)) ≤ B * (a * r * t) → β * (r * D * num) ≤ β' * (P * N * (c * U * D)) → b * β * (R * num) ≤ B * β' * (a * U * N * t)
+join_high b B β β' R t c P a r D N num U p h k = le_of_mul-le-mul_right {k = c * P * D} (simp ac (omega (arith, simp ac at (mul-le-mul_right (β * D * num) h), simp ac at (mul-le-mul_right (B * a * t) k)))) p
 
-join-low : (b B β β' R t c P a r D N num U : ℕ) → 0 < c * P * D → b * (a * r * t) ≤ B * (R * (c * P)) → β * (P * N * (c * U * D)) ≤ β' * (r * D * num) → b * β * (a * U * N * t) ≤ B * β' * (R * num)
-join-low b B β β' R t c P a r D N num U p h k = le_of_mul-le-mul_right {k = c * P * D} (simp ac (omega (arith, simp ac at (mul-le-mul_right (β' * D * num) h), simp ac at (mul-le-mul_right (b * a * t) k)))) p
+join_low : (b B β β' R t c P a r D N num U : ℕ) → 0 < c * P * D → b * (a * r * t) ≤ B * (R * (c * P)) → β * (P * N * (c * U * D)) ≤ β' * (r * D * num) → b * β * (a * U * N * t) ≤ B * β' * (R * num)
+join_low b B β β' R t c P a r D N num U p h k = le_of_mul-le-mul_right {k = c * P * D} (simp ac (omega (arith, simp ac at (mul-le-mul_right (β' * D * num) h), simp ac at (mul-le-mul_right (b * a * t) k)))) p
 
-pub tan-rounding : (q K c P a r D N num U : ℕ) (v : Float) → 0 < K → 0 < c * P * D → Relative 16777216 q K v → q * (c * P) ≡ a * r * K
+pub tan_rounding : (q K c P a r D N num U : ℕ) (v : Float) → 0 < K → 0 < c * P * D → Relative 16777216 q K v → q * (c * P) ≡ a * r * K
     → 2147483356 * 67108864 * (r * D * num) ≤ 67109160 * 2147483648 * (P * N * (c * U * D))
     → 2147483648 * 1073741824 * 67108568 * (P * N * (c * U * D)) ≤ 2147483940 * 1073741825 * 67108864 * (r * D * num)
     → Relative 65536 (a * U * N) num v
-tan-rounding q K c P a r D N num U nan kp p w e h l = w
-tan-rounding q K c P a r D N num U (inf s) kp p w e h l = w
-tan-rounding q K c P a r D N num U (fin s m i) kp p w e h l =
+tan_rounding q K c P a r D N num U nan kp p w e h l = w
+tan_rounding q K c P a r D N num U (inf s) kp p w e h l = w
+tan_rounding q K c P a r D N num U (fin s m i) kp p w e h l =
     let R = m * up i in
     let t = down i in (
       w.0,
       le_trans (le_of_eq (mul_assoc 65535 (a * U * N) t))
-          (le_trans (loosen (16777215 * (2147483648 * 1073741824 * 67108568)) (16777216 * (2147483940 * 1073741825 * 67108864)) 65535 65536 (a * U * N * t) (R * num) (lit< tt) (lit≤ tt) (join-low 16777215 16777216 (2147483648 * 1073741824 * 67108568) (2147483940 * 1073741825 * 67108864) R t c P a r D N num U p (digits_low 16777215 16777216 R t q K c P a r kp w.1 e) l))
+          (le_trans (loosen (16777215 * (2147483648 * 1073741824 * 67108568)) (16777216 * (2147483940 * 1073741825 * 67108864)) 65535 65536 (a * U * N * t) (R * num) (lit< tt) (lit≤ tt) (join_low 16777215 16777216 (2147483648 * 1073741824 * 67108568) (2147483940 * 1073741825 * 67108864) R t c P a r D N num U p (digits_low 16777215 16777216 R t q K c P a r kp w.1 e) l))
           (le_of_eq (sym (mul_assoc 65536 R num)))),
       le_trans (le_of_eq (mul_assoc 65536 R num))
-          (le_trans (loosen (16777216 * (2147483356 * 67108864)) (16777217 * (67109160 * 2147483648)) 65536 65537 (R * num) (a * U * N * t) (lit< tt) (lit≤ tt) (join-high 16777216 16777217 (2147483356 * 67108864) (67109160 * 2147483648) R t c P a r D N num U p (digits-high 16777216 16777217 R t q K c P a r kp w.2 e) h))
+          (le_trans (loosen (16777216 * (2147483356 * 67108864)) (16777217 * (67109160 * 2147483648)) 65536 65537 (R * num) (a * U * N * t) (lit< tt) (lit≤ tt) (join_high 16777216 16777217 (2147483356 * 67108864) (67109160 * 2147483648) R t c P a r D N num U p (digits_high 16777216 16777217 R t q K c P a r kp w.2 e) h))
           (le_of_eq (sym (mul_assoc 65537 (a * U * N) t)))),
     )
 
-pub den_pos : (d : ℕ) → 0 < d → 0 < sincDen d
+pub den_pos : (d : ℕ) → 0 < d → 0 < sinc_den d
 den_pos d h = mul-pos {m = 6227020800} (lit< tt) (one-le-pow 6 (d * d) (mul-pos h h))
 
 -- ---- x = a / c up to 1.5, and X is x in Q31
 abbrev U : ℕ
 U = 200000000000000
 
-pub cosine-is : (a c : ℕ) → a * U < quarter c → sineNum 1 a c ≡ oddNum (quarter c - a * U) (unit c)
-cosine-is a c h = rw (no-turns a c h, all_rest a c h)
+pub cosine_is : (a c : ℕ) → a * U < quarter c → sine_num 1 a c ≡ odd_num (quarter c - a * U) (unit c)
+cosine_is a c h = rw (no_turns a c h, all_rest a c h)
 
 -- what an angle lacks of a quarter turn
 lack : (a g q d x z C : ℕ) → g + a ≡ q → z + x ≡ C → x ≤ a * 2147483648 → a * 2147483648 ≤ x + d → C ≤ q * 2147483648 → q * 2147483648 ≤ C + d → (z ≤ g * 2147483648 + 2 * d) × (g * 2147483648 ≤ z + 2 * d)
 lack a g q d x z C e₁ e₂ h₁ h₂ h₃ h₄ = (omega arith, omega arith)
 
 module _ (a c x : ℕ) (cp : 0 < c) (top : 2 * a ≤ 3 * c) (lo : x * c ≤ a * 2147483648) (hi : a * 2147483648 < x * c + c) where
-  pub x-le : x ≤ 3221225472
-  x-le = le_of_mul-le-mul_right {k = c} (omega arith) cp
+  pub x_le : x ≤ 3221225472
+  x_le = le_of_mul-le-mul_right {k = c} (omega arith) cp
 
   pub first : a * U < quarter c
   first = omega arith
 
   back : (quarter31 - x) * unit c + x * unit c ≡ quarter31 * unit c
-  back = sym (add-mul (quarter31 - x) x (unit c)) ∙ ap (λ (y : ℕ). y * unit c) (sub-add_cancel (le_trans x-le (lit≤ tt)))
+  back = sym (add-mul (quarter31 - x) x (unit c)) ∙ ap (λ (y : ℕ). y * unit c) (sub-add_cancel (le_trans x_le (lit≤ tt)))
 
-  pub tan-reduction : ((x * unit c ≤ a * U * 2147483648 + 2 * unit c) × (a * U * 2147483648 ≤ x * unit c + 2 * unit c)) × (((quarter31 - x) * unit c ≤ (quarter c - a * U) * 2147483648 + 2 * unit c) × ((quarter c - a * U) * 2147483648 ≤ (quarter31 - x) * unit c + 2 * unit c))
-  tan-reduction = (
+  pub tan_reduction : ((x * unit c ≤ a * U * 2147483648 + 2 * unit c) × (a * U * 2147483648 ≤ x * unit c + 2 * unit c)) × (((quarter31 - x) * unit c ≤ (quarter c - a * U) * 2147483648 + 2 * unit c) × ((quarter c - a * U) * 2147483648 ≤ (quarter31 - x) * unit c + 2 * unit c))
+  tan_reduction = (
     (omega arith, omega arith),
     lack (a * U) (quarter c - a * U) (quarter c) (unit c) (x * unit c) ((quarter31 - x) * unit c) (quarter31 * unit c) (sub-add_cancel (le_of_lt first)) back (omega arith) (omega arith) (omega arith) (omega arith),
   )
@@ -83,27 +83,27 @@ module _ (a c x : ℕ) (cp : 0 < c) (top : 2 * a ≤ 3 * c) (lo : x * c ≤ a * 
   d = unit c
 
   abbrev D : ℕ
-  D = sincDen d
+  D = sinc_den d
 
-  pub tan-at : (q k : ℕ) (v : Float) → 0 < k → Relative 16777216 q k v → q * (c * 4294967296) ≡ a * ratioOf x * k → Relative 65536 (sineNum 0 a c) (sineNum 1 a c) v
-  tan-at q k v kp w e =
-      let t = tan-reduction in
-      let m = tan-method (a * U) (quarter c - a * U) d x (omega arith) x-le t.0.0 t.0.1 (omega arith) t.1.0 t.1.1 (omega arith) in
-      rw (sine-is a c first, cosine-is a c first)
-      (tan-rounding q k c 4294967296 a (ratioOf x) D (sincNum (a * U) d) (oddNum (quarter c - a * U) d) U v kp (mul-pos (mul-pos cp (lit< tt)) (den_pos d (omega arith))) w e m.0 m.1)
+  pub tan_at : (q k : ℕ) (v : Float) → 0 < k → Relative 16777216 q k v → q * (c * 4294967296) ≡ a * ratio_of x * k → Relative 65536 (sine_num 0 a c) (sine_num 1 a c) v
+  tan_at q k v kp w e =
+      let t = tan_reduction in
+      let m = tan_method (a * U) (quarter c - a * U) d x (omega arith) x_le t.0.0 t.0.1 (omega arith) t.1.0 t.1.1 (omega arith) in
+      rw (sine_is a c first, cosine_is a c first)
+      (tan_rounding q k c 4294967296 a (ratio_of x) D (sinc_num (a * U) d) (odd_num (quarter c - a * U) d) U v kp (mul-pos (mul-pos cp (lit< tt)) (den_pos d (omega arith))) w e m.0 m.1)
 
   -- the sine is at most 3 / 2, and the cosine above 1 / 33
-  pub sine-part : 2 * sineNum 0 a c ≤ 3 * oddDen (unit c)
-  sine-part = rw (sine-is a c first) (twice (a * U) (unit c) (sincNum (a * U) d) D (omega arith) (odd-le (a * U) d))
+  pub sine_part : 2 * sine_num 0 a c ≤ 3 * odd_den (unit c)
+  sine_part = rw (sine_is a c first) (twice (a * U) (unit c) (sinc_num (a * U) d) D (omega arith) (odd_le (a * U) d))
     where
       twice : (f d N D : ℕ) → 2 * f ≤ 3 * d → N ≤ D → 2 * (f * N) ≤ 3 * (d * D)
       twice f d N D h k = le_trans (le_of_eq (sym (mul_assoc 2 f N))) (le_trans (mul-le-mul h k) (le_of_eq (mul_assoc 3 d D)))
 
-  pub cosine-part : oddDen (unit c) ≤ 33 * sineNum 1 a c
-  cosine-part =
-      let t = tan-reduction in
-      rw (cosine-is a c first)
-      (part (cosFix x) (oddNum (quarter c - a * U) d) (oddDen d) (cos-low x x-le) (cos-below (a * U) (quarter c - a * U) d x (omega arith) x-le t.0.0 t.0.1 (omega arith) t.1.0 t.1.1 (omega arith)))
+  pub cosine_part : odd_den (unit c) ≤ 33 * sine_num 1 a c
+  cosine_part =
+      let t = tan_reduction in
+      rw (cosine_is a c first)
+      (part (cos_fix x) (odd_num (quarter c - a * U) d) (odd_den d) (cos_low x x_le) (cos_below (a * U) (quarter c - a * U) d x (omega arith) x_le t.0.0 t.0.1 (omega arith) t.1.0 t.1.1 (omega arith)))
     where
       part : (h n D : ℕ) → 67108864 ≤ h → h * D ≤ 2147483648 * n + 295 * D → D ≤ 33 * n
       part h n D k l = omega (arith, mul-le-mul_right D k)
@@ -113,67 +113,67 @@ every : (ℕ → Bool) → ℕ → Bool
 every p zero = p 0
 every p (suc n) = p (suc n) && every p n
 
-every-says : (p : ℕ → Bool) (n k : ℕ) → T (every p n) → k ≤ n → T (p k)
+every_says : (p : ℕ → Bool) (n k : ℕ) → T (every p n) → k ≤ n → T (p k)
 unfolding every
-every-says p zero k t h = subst (λ (i : ℕ). T (p i)) (sym (le-zero h)) t
-every-says p (suc n) k t h =
+every_says p zero k t h = subst (λ (i : ℕ). T (p i)) (sym (le-zero h)) t
+every_says p (suc n) k t h =
     elim (eq-or-lt_of_le h) [
       | inl e ↦ subst (λ (i : ℕ). T (p i)) (sym e) (and_l (p (suc n)) (every p n) t)
-      | inr l ↦ every-says p n k (and_r (p (suc n)) (every p n) t) (le_of_suc-le-suc l)
+      | inr l ↦ every_says p n k (and_r (p (suc n)) (every p n) t) (le_of_suc-le-suc l)
     ]
 
-near-one : ℕ → Bool
-near-one x = leb 2147475456 (cosFix x) && leb (cosFix x) 2147491840
+near_one : ℕ → Bool
+near_one x = leb 2147475456 (cos_fix x) && leb (cos_fix x) 2147491840
 
-all_near : T (every near-one 128)
-unfolding every near-one sineFix sincOf paired
+all_near : T (every near_one 128)
+unfolding every near_one sine_fix sinc_of paired
 all_near = tt
 
-one_of : (x : ℕ) → x ≤ 128 → (2147475456 ≤ cosFix x) × (cosFix x ≤ 2147491840)
-unfolding near-one
+one_of : (x : ℕ) → x ≤ 128 → (2147475456 ≤ cos_fix x) × (cos_fix x ≤ 2147491840)
+unfolding near_one
 one_of x h =
-    let t = every-says near-one 128 x all_near h in
-    (leb→le 2147475456 (cosFix x) (and_l (leb 2147475456 (cosFix x)) (leb (cosFix x) 2147491840) t), leb→le (cosFix x) 2147491840 (and_r (leb 2147475456 (cosFix x)) (leb (cosFix x) 2147491840) t))
+    let t = every_says near_one 128 x all_near h in
+    (leb→le 2147475456 (cos_fix x) (and_l (leb 2147475456 (cos_fix x)) (leb (cos_fix x) 2147491840) t), leb→le (cos_fix x) 2147491840 (and_r (leb 2147475456 (cos_fix x)) (leb (cos_fix x) 2147491840) t))
 
-own-numbers : (h num den n : ℕ) → 2147475456 ≤ h → h ≤ 2147491840 → h * den ≤ 2147483648 * num + 295 * den → 2147483648 * num ≤ h * den + 296 * den → 6291456 * den ≤ 6291456 * n + den → n ≤ den
+own_numbers : (h num den n : ℕ) → 2147475456 ≤ h → h ≤ 2147491840 → h * den ≤ 2147483648 * num + 295 * den → 2147483648 * num ≤ h * den + 296 * den → 6291456 * den ≤ 6291456 * n + den → n ≤ den
     → (65535 * n ≤ 65536 * num) × (65536 * num ≤ 65537 * n)
-own-numbers h num den n a b k l p q =
+own_numbers h num den n a b k l p q =
     let x = mul-le-mul_right den a in
     let y = mul-le-mul_right den b in
     (omega arith, omega arith)
 
 module _ (a c x : ℕ) (cp : 0 < c) (small : a * 16777216 ≤ c) (lo : x * c ≤ a * 2147483648) (hi : a * 2147483648 < x * c + c) where
-  x-few : x ≤ 128
-  x-few = le_of_mul-le-mul_right {k = c} (omega arith) cp
+  x_few : x ≤ 128
+  x_few = le_of_mul-le-mul_right {k = c} (omega arith) cp
 
   top : 2 * a ≤ 3 * c
   top = omega arith
 
-  own-parts : (65535 * (unit c * sincNum (a * U) (unit c)) ≤ 65536 * sineNum 1 a c) × (65536 * sineNum 1 a c ≤ 65537 * (unit c * sincNum (a * U) (unit c)))
-  own-parts =
+  own_parts : (65535 * (unit c * sinc_num (a * U) (unit c)) ≤ 65536 * sine_num 1 a c) × (65536 * sine_num 1 a c ≤ 65537 * (unit c * sinc_num (a * U) (unit c)))
+  own_parts =
       let d = unit c in
-      let N = sincNum (a * U) d in
-      let D = sincDen d in
-      let t = tan-reduction a c x cp top lo hi in
-      let o = one_of x x-few in
+      let N = sinc_num (a * U) d in
+      let D = sinc_den d in
+      let t = tan_reduction a c x cp top lo hi in
+      let o = one_of x x_few in
       let g = quarter c - a * U in
-      let xl = x-le a c x cp top lo hi in
-      rw (cosine-is a c (first a c x cp top lo hi))
-      (own-numbers (cosFix x) (oddNum g d) (oddDen d) (d * N) o.0 o.1
-      (cos-below (a * U) g d x (omega arith) xl t.0.0 t.0.1 (omega arith) t.1.0 t.1.1 (omega arith))
-      (cos-above (a * U) g d x (omega arith) xl t.0.0 t.0.1 (omega arith) t.1.0 t.1.1 (omega arith))
-      (spread 6291456 d D N (own-series (a * U) d (omega arith)))
-      (mul-le-mul_left d (odd-le (a * U) d)))
+      let xl = x_le a c x cp top lo hi in
+      rw (cosine_is a c (first a c x cp top lo hi))
+      (own_numbers (cos_fix x) (odd_num g d) (odd_den d) (d * N) o.0 o.1
+      (cos_below (a * U) g d x (omega arith) xl t.0.0 t.0.1 (omega arith) t.1.0 t.1.1 (omega arith))
+      (cos_above (a * U) g d x (omega arith) xl t.0.0 t.0.1 (omega arith) t.1.0 t.1.1 (omega arith))
+      (spread 6291456 d D N (own_series (a * U) d (omega arith)))
+      (mul-le-mul_left d (odd_le (a * U) d)))
     where
       spread : (g d D N : ℕ) → g * D ≤ g * N + D → g * (d * D) ≤ g * (d * N) + d * D
       spread g d D N h = omega (arith, mul-le-mul_left d h)
 
   -- x is its own tangent
-  pub tan-own : (65535 * sineNum 0 a c * c ≤ 65536 * a * sineNum 1 a c) × (65536 * a * sineNum 1 a c ≤ 65537 * sineNum 0 a c * c)
-  tan-own =
-      let o = own-parts in
-      let N = sincNum (a * U) (unit c) in
-      rw (sine-is a c (first a c x cp top lo hi)) (times a c U N (sineNum 1 a c) o.0 o.1)
+  pub tan_own : (65535 * sine_num 0 a c * c ≤ 65536 * a * sine_num 1 a c) × (65536 * a * sine_num 1 a c ≤ 65537 * sine_num 0 a c * c)
+  tan_own =
+      let o = own_parts in
+      let N = sinc_num (a * U) (unit c) in
+      rw (sine_is a c (first a c x cp top lo hi)) (times a c U N (sine_num 1 a c) o.0 o.1)
     where
       times : (a c U N n : ℕ) → 65535 * (c * U * N) ≤ 65536 * n → 65536 * n ≤ 65537 * (c * U * N) → (65535 * (a * U * N) * c ≤ 65536 * a * n) × (65536 * a * n ≤ 65537 * (a * U * N) * c)
       times a c U N n h k = (simp ac (omega (arith, simp ac at (mul-le-mul_left a h))), simp ac (omega (arith, simp ac at (mul-le-mul_left a k))))

@@ -8,7 +8,7 @@ use native.Mathlib.Nat.{le_of_lt, le_of_suc-le-suc, lt_of_not-le, mul-le-mul_rig
 use native.Mathlib.Omega.{arith}
 use lib.Dec.{T, T_not, eqb, eqb→eq, leb→le, le→leb, lit<}
 use lib.Ieee.Fits.{eq→eqb}
-use Rattle.line.proofs.Bools.{bool-ext}
+use Rattle.line.proofs.Bools.{bool_ext}
 use Rattle.sine.specs.Sine.{quarter31}
 use Rattle.sine.specs.Exact.{unit, quarter, turns, rest, folded, lower}
 
@@ -28,8 +28,8 @@ abbrev pub Near : ℕ → ℕ → ℕ → Bool → Bool → Type 0
 Near d f z s t = Same d f z s t ⊎ (z * d + f * Q ≤ 2 * d)
 
 -- an even quarter and the next are in the same half of the circle
-next-lower : (n : ℕ) → n % 2 ≡ 0 → lower n ≡ lower (n + 1)
-next-lower n e = bool-ext (lower n) (lower (n + 1)) (λ t. omega (arith, leb→le, le→leb)) (λ t. omega (arith, leb→le, le→leb))
+next_lower : (n : ℕ) → n % 2 ≡ 0 → lower n ≡ lower (n + 1)
+next_lower n e = bool_ext (lower n) (lower (n + 1)) (λ t. omega (arith, leb→le, le→leb)) (λ t. omega (arith, leb→le, le→leb))
 
 module _ (d q a x k m k' m' j : ℕ) (dp : 0 < d)
     (gap-low : C * d ≤ q * Q) (gap-high : 7 * (q * Q) ≤ 7 * (C * d) + d)
@@ -42,26 +42,26 @@ module _ (d q a x k m k' m' j : ℕ) (dp : 0 < d)
   kd : k * d ≤ 6 * d
   kd = mul-le-mul_right d few
 
-  gaps-low : C * (k * d) ≤ k * q * Q
-  gaps-low = omega (arith, mul-le-mul_right k gap-low)
+  gaps_low : C * (k * d) ≤ k * q * Q
+  gaps_low = omega (arith, mul-le-mul_right k gap-low)
 
-  gaps-high : 7 * (k * q * Q) ≤ 7 * (C * (k * d)) + k * d
-  gaps-high = omega (arith, mul-le-mul_right k gap-high)
+  gaps_high : 7 * (k * q * Q) ≤ 7 * (C * (k * d)) + k * d
+  gaps_high = omega (arith, mul-le-mul_right k gap-high)
 
-  no-fewer : k ≤ k'
-  no-fewer = le_of_suc-le-suc (lt_of_not-le (λ (g : suc k' ≤ k). clash (mul-le-mul_right d (more g))))
+  no_fewer : k ≤ k'
+  no_fewer = le_of_suc-le-suc (lt_of_not-le (λ (g : suc k' ≤ k). clash (mul-le-mul_right d (more g))))
     where
       more : suc k' ≤ k → x + 1 ≤ k * C
       more g = omega arith
 
       clash : (x + 1) * d ≤ k * C * d → ⊥
-      clash g = omega (arith, gaps-low)
+      clash g = omega (arith, gaps_low)
 
   no_more : k' ≤ k + 1
   no_more = le_of_suc-le-suc (lt_of_not-le (λ (g : suc (k + 1) ≤ k'). clash (mul-le-mul_right d g)))
     where
       clash : suc (k + 1) * d ≤ k' * d → ⊥
-      clash g = omega (arith, gaps-high, kd, xd)
+      clash g = omega (arith, gaps_high, kd, xd)
 
   -- as many: both angles are what is left, or both what it lacks of a quarter
   as_many : (n : ℕ) (s : Bool) → k ≡ k' → Near d (folded n q m) (folded n C m') s s
@@ -74,8 +74,8 @@ module _ (d q a x k m k' m' j : ℕ) (dp : 0 < d)
       back = omega (arith, ap (λ (y : ℕ). y * d) (sub-add_cancel (le_of_lt ml')))
 
       go : (b : Bool) → Near d (cond b m (q - m)) (cond b m' (C - m')) s s
-      go true = inl (record { sign = refl; low = omega (arith, xd', gaps-high, kd); high = omega (arith, xd', gaps-low) })
-      go false = inl (record { sign = refl; low = omega (arith, xd', gaps-low, back); high = omega (arith, xd', gaps-high, kd, back) })
+      go true = inl (record { sign = refl; low = omega (arith, xd', gaps_high, kd); high = omega (arith, xd', gaps_low) })
+      go false = inl (record { sign = refl; low = omega (arith, xd', gaps_low, back); high = omega (arith, xd', gaps_high, kd, back) })
 
   -- one more: of what is left next to nothing lacks of a quarter, and next to nothing is left by the program's count
   one_more : (n : ℕ) → k' ≡ k + 1 → Near d (folded n q m) (folded (n + 1) C m') (lower n) (lower (n + 1))
@@ -88,19 +88,19 @@ module _ (d q a x k m k' m' j : ℕ) (dp : 0 < d)
       back = omega (arith, ap (λ (y : ℕ). y * d) (sub-add_cancel (le_of_lt ml')))
 
       both : m' * d + (q - m) * Q ≤ d
-      both = omega (arith, xd', gaps-high, kd)
+      both = omega (arith, xd', gaps_high, kd)
 
       go : (b b' : Bool) → (T b → n % 2 ≡ 0) → (T b' → (n + 1) % 2 ≡ 0) → (T (not b) → n % 2 ≡ 0 → ⊥) → (T (not b') → (n + 1) % 2 ≡ 0 → ⊥) → Near d (cond b m (q - m)) (cond b' m' (C - m')) (lower n) (lower (n + 1))
       go true true f f' g g' = let h = f tt in let h' = f' tt in absurd (omega arith)
-      go true false f f' g g' = inl (record { sign = next-lower n (f tt); low = omega (arith, both, back); high = omega (arith, both, back) })
+      go true false f f' g g' = inl (record { sign = next_lower n (f tt); low = omega (arith, both, back); high = omega (arith, both, back) })
       go false true f f' g g' = inr (omega (arith, both))
-      go false false f f' g g' = absurd (g' tt (odd-next (g tt)))
+      go false false f f' g g' = absurd (g' tt (odd_next (g tt)))
         where
-          odd-next : (n % 2 ≡ 0 → ⊥) → (n + 1) % 2 ≡ 0
-          odd-next h = omega arith
+          odd_next : (n % 2 ≡ 0 → ⊥) → (n + 1) % 2 ≡ 0
+          odd_next h = omega arith
 
   pub reduced : Near d (folded (k + j) q m) (folded (k' + j) C m') (lower (k + j)) (lower (k' + j))
-  reduced = go (eq-or-lt_of_le no-fewer)
+  reduced = go (eq-or-lt_of_le no_fewer)
     where
       go : (k ≡ k') ⊎ (k < k') → Near d (folded (k + j) q m) (folded (k' + j) C m') (lower (k + j)) (lower (k' + j))
       go (inl e) = subst (λ (y : ℕ). Near d (folded (k + j) q m) (folded (y + j) C m') (lower (k + j)) (lower (y + j))) e (as_many (k + j) (lower (k + j)) e)
@@ -110,8 +110,8 @@ module _ (d q a x k m k' m' j : ℕ) (dp : 0 < d)
           sum e = omega arith
 
 -- of x = a / c up to 8, in Q31
-pub sin-reduction : (a c x j : ℕ) → 0 < c → x * c ≤ a * Q → a * Q < x * c + c → a ≤ 8 * c → Near (unit c) (folded (turns a c + j) (quarter c) (rest a c)) (folded (x / C + j) C (x % C)) (lower (turns a c + j)) (lower (x / C + j))
-sin-reduction a c x j cp lo hi h =
+pub sin_reduction : (a c x j : ℕ) → 0 < c → x * c ≤ a * Q → a * Q < x * c + c → a ≤ 8 * c → Near (unit c) (folded (turns a c + j) (quarter c) (rest a c)) (folded (x / C + j) C (x % C)) (lower (turns a c + j)) (lower (x / C + j))
+sin_reduction a c x j cp lo hi h =
     let q = quarter c in
     let A = a * 200000000000000 in
     reduced (unit c) q A x (A / q) (A % q) (x / C) (x % C) j (omega arith) (omega arith) (omega arith) (omega arith) (omega arith)

@@ -28,22 +28,22 @@ abbrev pub odds : List ℕ
 odds = 6227020800 ∷ 1037836800 ∷ 51891840 ∷ 1235520 ∷ 17160 ∷ 156 ∷ 1 ∷ []
 
 -- 1 - z² / 3! + .. + z¹² / 13! at z = f / d
-abbrev pub sincNum : ℕ → ℕ → ℕ
-sincNum f d = alternating odds (f * f) (d * d)
+abbrev pub sinc_num : ℕ → ℕ → ℕ
+sinc_num f d = alternating odds (f * f) (d * d)
 
-abbrev pub sincDen : ℕ → ℕ
-sincDen d = 6227020800 * (d * d) ^ 6
+abbrev pub sinc_den : ℕ → ℕ
+sinc_den d = 6227020800 * (d * d) ^ 6
 
 -- and the odd series to power 13, z times that
-abbrev pub oddNum : ℕ → ℕ → ℕ
-oddNum f d = f * sincNum f d
+abbrev pub odd_num : ℕ → ℕ → ℕ
+odd_num f d = f * sinc_num f d
 
-abbrev pub oddDen : ℕ → ℕ
-oddDen d = d * sincDen d
+abbrev pub odd_den : ℕ → ℕ
+odd_den d = d * sinc_den d
 
 -- The sine of x and j quarter turns; its sign is lower (turns a c + j). The cosine is the sine a quarter turn on, so at j = 1.
-abbrev pub sineNum : ℕ → ℕ → ℕ → ℕ
-sineNum j a c = oddNum (folded (turns a c + j) (quarter c) (rest a c)) (unit c)
+abbrev pub sine_num : ℕ → ℕ → ℕ → ℕ
+sine_num j a c = odd_num (folded (turns a c + j) (quarter c) (rest a c)) (unit c)
 
-abbrev pub sineDen : ℕ → ℕ
-sineDen c = oddDen (unit c)
+abbrev pub sine_den : ℕ → ℕ
+sine_den c = odd_den (unit c)

@@ -3,7 +3,7 @@ ghost use Rattle.std.specs.Prelude.{◌≡◌, not, ◌+◌, ◌-◌, ◌*◌, �
 ghost use Rattle.std.specs.Float.Ieee.{lt};
 ghost use Rattle.fixed.specs.Fixed.{size_of};
 ghost use Rattle.sine.specs.Exact.{folded};
-ghost use Rattle.sine.specs.Sine.{eight, little, up_to, sincOf, sineFix, waveOf, ratioOf, sinOf, cosOf, tanOf, Sine, Tangent, quarter31};
+ghost use Rattle.sine.specs.Sine.{eight, little, up_to, sinc_of, sine_fix, wave_of, ratio_of, sin_of, cos_of, tan_of, Sine, Tangent, quarter31};
 
 use fixed::{pack, size};
 
@@ -21,7 +21,7 @@ fn step(b: u64, c: u64, v: u64) -> u64
 // sin z / z in Q32, for v = z^2 / 4 in Q32: by pairs of terms, which do not wait for each other.
 fn sinc(v: u64) -> u64
     requires { v < 4294967296 }
-    ensures { (result ≡ sincOf v) × (result ≤ 4294967296) }
+    ensures { (result ≡ sinc_of v) × (result ≤ 4294967296) }
 {
     let w = v * v / 4294967296; // Q32
     let a = step(4294967296, 2863311531, v);
@@ -33,7 +33,7 @@ fn sinc(v: u64) -> u64
 // The sine of the angle z in Q31, up to a quarter turn, in Q63, and 1 more, so that it is not 0.
 fn sine_fix(z: u64) -> u64
     requires { z ≤ quarter31 }
-    ensures { (result ≡ sineFix z) × (0 < result) }
+    ensures { (result ≡ sine_fix z) × (0 < result) }
 {
     z * sinc(z * z / 4294967296) + 1
 }
@@ -52,7 +52,7 @@ fn fold(k: u64, m: u64) -> u64
 // The sine of x in Q31 and j quarter turns.
 fn wave(x: u64, j: u64) -> f32
     requires { j ≤ 1 }
-    ensures { result ≡ waveOf j x }
+    ensures { result ≡ wave_of j x }
 {
     let n = x / QUARTER_TURN;
     let k = n + j;
@@ -76,7 +76,7 @@ fn angle(x: f32) -> u64
 
 // The sine, for x from 0 to 8.
 pub fn sin(x: f32) -> f32
-    ensures is { result ≡ sinOf x }
+    ensures is { result ≡ sin_of x }
     ensures near { Sine 0 x result }
 {
     if (x >= 0.0009765625) & (x <= 8.0) {
@@ -90,7 +90,7 @@ pub fn sin(x: f32) -> f32
 
 // The cosine, for x from 0 to 8.
 pub fn cos(x: f32) -> f32
-    ensures is { result ≡ cosOf x }
+    ensures is { result ≡ cos_of x }
     ensures near { Sine 1 x result }
 {
     if (x >= 0.0) & (x <= 8.0) {
@@ -102,7 +102,7 @@ pub fn cos(x: f32) -> f32
 // sin z / z over cos z in Q32, for the angle z in Q31, up to 1.5.
 fn ratio(z: u64) -> u64
     requires { z ≤ 3221225472 }
-    ensures { (result ≡ ratioOf z) × (0 < result) × (result ≤ 137438953472) }
+    ensures { (result ≡ ratio_of z) × (0 < result) × (result ≤ 137438953472) }
 {
     let y = sinc(z * z / 4294967296); // Q32
     let c = sine_fix(QUARTER_TURN - z) / 4294967296; // Q31
@@ -111,7 +111,7 @@ fn ratio(z: u64) -> u64
 
 // The tangent, for x from 0 to 1.5: the digits of x, times the ratio.
 pub fn tan(x: f32) -> f32
-    ensures is { result ≡ tanOf x }
+    ensures is { result ≡ tan_of x }
     ensures near { Tangent x result }
 {
     if (x >= 0.0) & (x <= 1.5) {

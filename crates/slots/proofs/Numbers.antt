@@ -13,26 +13,26 @@ map_at f [] i d e h = absurd (omega arith)
 map_at f (x ∷ l) zero d e h = refl
 map_at f (x ∷ l) (suc i) d e h = map_at f l i d e (omega arith)
 
-pub up-length : (n : ℕ) → length (up_to n) ≡ n
+pub up_length : (n : ℕ) → length (up_to n) ≡ n
 unfolding up_to
-up-length zero = refl
-up-length (suc n) = length-append (up_to n) (n ∷ []) ∙ omega (arith, up-length n)
+up_length zero = refl
+up_length (suc n) = length-append (up_to n) (n ∷ []) ∙ omega (arith, up_length n)
 
 module _ {A : Type 0} (f : ℕ → A) where
   -- one more
-  pub map-up-suc : (n : ℕ) → map f (up_to (suc n)) ≡ map f (up_to n) ++ (f n ∷ [])
+  pub map_up_suc : (n : ℕ) → map f (up_to (suc n)) ≡ map f (up_to n) ++ (f n ∷ [])
   unfolding up_to
-  map-up-suc n = map-append f (up_to n) (n ∷ [])
+  map_up_suc n = map-append f (up_to n) (n ∷ [])
 
-  pub map-up-length : (n : ℕ) → length (map f (up_to n)) ≡ n
-  map-up-length n = length-map (up_to n) f ∙ up-length n
+  pub map_up_length : (n : ℕ) → length (map f (up_to n)) ≡ n
+  map_up_length n = length-map (up_to n) f ∙ up_length n
 
-  pub map-up-at : (n i : ℕ) (d : A) → i < n → get_or (map f (up_to n)) i d ≡ f i
-  map-up-at zero i d h = absurd (omega arith)
-  map-up-at (suc n) i d h = ap (λ (l : List A). get_or l i d) (map-up-suc n) ∙ by (dec_lt i n)
+  pub map_up_at : (n i : ℕ) (d : A) → i < n → get_or (map f (up_to n)) i d ≡ f i
+  map_up_at zero i d h = absurd (omega arith)
+  map_up_at (suc n) i d h = ap (λ (l : List A). get_or l i d) (map_up_suc n) ∙ by (dec_lt i n)
     where
       by : Dec (i < n) → get_or (map f (up_to n) ++ (f n ∷ [])) i d ≡ f i
-      by (yes l) = get_or-append (map f (up_to n)) (f n ∷ []) d i (rw (map-up-length n) l) ∙ map-up-at n i d l
+      by (yes l) = get_or-append (map f (up_to n)) (f n ∷ []) d i (rw (map_up_length n) l) ∙ map_up_at n i d l
       by (no l) =
           let e : i ≡ n = omega arith in
-          rw e (get_or_at (map f (up_to n)) (f n) [] d n (map-up-length n))
+          rw e (get_or_at (map f (up_to n)) (f n) [] d n (map_up_length n))

@@ -4,7 +4,7 @@ ghost use Prim.Native.Nat.{◌≤◌, ◌<◌};
 ghost use lib.ListN.{length};
 ghost use lib.Dec.{T};
 ghost use Rattle.bus.specs.Bus.{Words};
-ghost use Rattle.slots.specs.Slots.{times, onceTo, rightTable, rawOf, copy_of, Copied};
+ghost use Rattle.slots.specs.Slots.{times, once_to, right_table, raw_of, copy_of, Copied};
 
 // How many slots name voice v.
 fn times(table: &[u8], v: u8) -> usize
@@ -23,7 +23,7 @@ fn times(table: &[u8], v: u8) -> usize
 
 // Whether the table is right: eight slots that name each voice once.
 pub fn right(table: &[u8]) -> bool
-    ensures { result ≡ rightTable table.now }
+    ensures { result ≡ right_table table.now }
 {
     if table.len() != 8 {
         return false;
@@ -40,7 +40,7 @@ pub fn right(table: &[u8]) -> bool
 // The raw word that stands at place i of the copy.
 fn raw(table: &[u8], i: usize) -> usize
     requires { (length table.now ≡ 8) × (i < 12) }
-    ensures { result ≡ rawOf table.now i }
+    ensures { result ≡ raw_of table.now i }
 {
     if i < 2 {
         return board::RX_MAIN + i;
@@ -53,7 +53,7 @@ fn raw(table: &[u8], i: usize) -> usize
 
 // The copy. No negation overflows, since the words lie within ±8,388,607.
 pub fn copy(rx: [i32; 12], table: &[u8], dest: &mut [i32])
-    requires { Words rx × T (rightTable table.now) × (length dest.old ≡ 12) }
+    requires { Words rx × T (right_table table.now) × (length dest.old ≡ 12) }
     ensures { dest.new ≡ copy_of table.now rx }
 {
     let mut i: usize = 0;

@@ -1,8 +1,8 @@
 -- The sources of a step, from `Analog::frame`. Definitions only.
 use Rattle.std.specs.Prelude.{ℕ, false, List, [], get_or, set, ℤ, pos}
 use Rattle.std.specs.Float.{nan}
-use Rattle.frame.specs.Offsets.{HAT-VOICE, CYM-VOICE, dualSpec, tomSpec}
-use Rattle.lists.specs.Turns.{turnsOf}
+use Rattle.frame.specs.Offsets.{HAT_VOICE, CYM_VOICE, dual_spec, tom_spec}
+use Rattle.lists.specs.Turns.{turns_of}
 use Rattle.dual.specs.Dual as Dual
 use Rattle.tom.specs.Tom as Tom
 use Rattle.cym.specs.Cym as Cym
@@ -12,8 +12,8 @@ use Rattle.tom.specs.declared.Tom.{Tom}
 use Rattle.sources.specs.declared.Sources.{Sources}
 
 -- what stands for an element past the end of a list, where no step looks
-abbrev pub noDual : DualOsc
-noDual = record {
+abbrev pub no_dual : DualOsc
+no_dual = record {
   last_p = [];
   last_a = [];
   ph1 = nan;
@@ -27,36 +27,36 @@ noDual = record {
   drift = [];
 }
 
-abbrev pub noTom : Tom
-noTom = record { y1 = nan; y2 = nan; det = nan; quiet = 0 }
+abbrev pub no_tom : Tom
+no_tom = record { y1 = nan; y2 = nan; det = nan; quiet = 0 }
 
 -- dual voice d: BD, SD, RS sound as voices 0, 2, 7
-unfoldable pub dualTurn : List ℕ → ℕ → Sources → Sources
-dualTurn f d s =
-    let o = Dual.sampleOf f d (get_or s.duals d noDual) s.w in
-    record { duals = set s.duals d o.dual; hat = s.hat; toms = s.toms; cym = s.cym; w = o.w; src = set s.src (dualSpec d).voice o.y }
+unfoldable pub dual_turn : List ℕ → ℕ → Sources → Sources
+dual_turn f d s =
+    let o = Dual.sample_of f d (get_or s.duals d no_dual) s.w in
+    record { duals = set s.duals d o.dual; hat = s.hat; toms = s.toms; cym = s.cym; w = o.w; src = set s.src (dual_spec d).voice o.y }
 
 -- BD, SD and RS in turn
-unfoldable pub dualsOf : List ℕ → Sources → Sources
-dualsOf f s = turnsOf 3 (dualTurn f) s
+unfoldable pub duals_of : List ℕ → Sources → Sources
+duals_of f s = turns_of 3 (dual_turn f) s
 
 -- tom t: "toms 1, 3, 5", each with the DAC word of its exciter
-unfoldable pub tomTurn : List ℕ → List ℤ → ℕ → Sources → Sources
-tomTurn f dac t s =
-    let o = Tom.sampleOf f t (get_or dac (tomSpec t).dac (pos 0)) (get_or s.toms t noTom) s.w in
-    record { duals = s.duals; hat = s.hat; toms = set s.toms t o.tom; cym = s.cym; w = o.w; src = set s.src (tomSpec t).voice o.y }
+unfoldable pub tom_turn : List ℕ → List ℤ → ℕ → Sources → Sources
+tom_turn f dac t s =
+    let o = Tom.sample_of f t (get_or dac (tom_spec t).dac (pos 0)) (get_or s.toms t no_tom) s.w in
+    record { duals = s.duals; hat = s.hat; toms = set s.toms t o.tom; cym = s.cym; w = o.w; src = set s.src (tom_spec t).voice o.y }
 
 -- the three toms in turn
-unfoldable pub tomsOf : List ℕ → List ℤ → Sources → Sources
-tomsOf f dac s = turnsOf 3 (tomTurn f dac) s
+unfoldable pub toms_of : List ℕ → List ℤ → Sources → Sources
+toms_of f dac s = turns_of 3 (tom_turn f dac) s
 
 -- the cymbal draws before the hat
-unfoldable pub metalOf : List ℕ → Sources → Sources
-metalOf f s =
-    let o = Cym.sampleOf f s.cym s.w in
-    let p = Hat.sampleOf f s.hat o.w in
-    record { duals = s.duals; hat = p.hat; toms = s.toms; cym = o.cym; w = p.w; src = set (set s.src CYM-VOICE o.y) HAT-VOICE p.y }
+unfoldable pub metal_of : List ℕ → Sources → Sources
+metal_of f s =
+    let o = Cym.sample_of f s.cym s.w in
+    let p = Hat.sample_of f s.hat o.w in
+    record { duals = s.duals; hat = p.hat; toms = s.toms; cym = o.cym; w = p.w; src = set (set s.src CYM_VOICE o.y) HAT_VOICE p.y }
 
 -- "Dual voices BD, SD, RS; toms 1, 3, 5; cymbal; hat"
-unfoldable pub soundOf : List ℕ → List ℤ → Sources → Sources
-soundOf f dac s = metalOf f (tomsOf f dac (dualsOf f s))
+unfoldable pub sound_of : List ℕ → List ℤ → Sources → Sources
+sound_of f dac s = metal_of f (toms_of f dac (duals_of f s))

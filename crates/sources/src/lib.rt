@@ -1,8 +1,8 @@
 // The sources of a step, in the order that decides the draws: three dual voices, three toms, cymbal, hat.
 ghost use Rattle.std.specs.Prelude.{◌≡◌, ◌≤◌, ◌<◌, length, get_or, replicate, pos};
 ghost use Rattle.float.specs.Consts.{k0};
-ghost use Rattle.frame.specs.Offsets.{FRAME-BYTES};
-ghost use Rattle.sources.specs.Sources.{soundOf};
+ghost use Rattle.frame.specs.Offsets.{FRAME_BYTES};
+ghost use Rattle.sources.specs.Sources.{sound_of};
 
 use cym::Cym;
 use dual::DualOsc;
@@ -39,8 +39,8 @@ pub fn sound(
     f: &[u8],
     dac: &[i32],
 ) -> Sources
-    requires { (FRAME-BYTES ≤ length f.now) × (16 ≤ length dac.now) }
-    ensures { result ≡ soundOf f.now dac.now (record { duals = duals; hat = hat; toms = toms; cym = cym; w = w; src = replicate 8 k0 }) }
+    requires { (FRAME_BYTES ≤ length f.now) × (16 ≤ length dac.now) }
+    ensures { result ≡ sound_of f.now dac.now (record { duals = duals; hat = hat; toms = toms; cym = cym; w = w; src = replicate 8 k0 }) }
 {
     let mut duals = duals;
     let mut w = w;

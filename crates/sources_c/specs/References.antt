@@ -16,18 +16,18 @@ number_of Saw = 5
 number_of Square = 6
 
 -- the waveform of a number; past the last place off
-unfoldable pub waveOf : ℕ → Wave
-waveOf n = cond (eqb n 1) Sine (cond (eqb n 2) AsymSine (cond (eqb n 3) Triangle (cond (eqb n 4) SineSaw (cond (eqb n 5) Saw (cond (eqb n 6) Square Off)))))
+unfoldable pub wave_of : ℕ → Wave
+wave_of n = cond (eqb n 1) Sine (cond (eqb n 2) AsymSine (cond (eqb n 3) Triangle (cond (eqb n 4) SineSaw (cond (eqb n 5) Saw (cond (eqb n 6) Square Off)))))
 
 -- the settings that a numbered set stands for
-unfoldable pub setOf : NumberedSet → Osc2Set
-setOf s = record {
+unfoldable pub set_of : NumberedSet → Osc2Set
+set_of s = record {
   hz1 = s.hz1;
   hz2 = s.hz2;
   stopped1 = s.stopped1;
   stopped2 = s.stopped2;
-  wave1 = waveOf s.wave1;
-  wave2 = waveOf s.wave2;
+  wave1 = wave_of s.wave1;
+  wave2 = wave_of s.wave2;
   level1 = s.level1;
   level2 = s.level2;
   depth_word = s.depth_word;

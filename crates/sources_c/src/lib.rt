@@ -1,13 +1,13 @@
 // The sound sources, and the calls that they stand on, under C names, for the comparison with the Rust.
 ghost use Rattle.std.specs.Prelude.{◌≡◌, Bool};
-ghost use Rattle.envelope.specs.Record.{recordOf};
-ghost use Rattle.vco.specs.Vco.{fromBits, waveAt, pair_of};
-ghost use Rattle.dual.specs.Dual.{dualNew};
-ghost use Rattle.hat.specs.Hat.{hatNew};
-ghost use Rattle.cym.specs.Cym.{cymNew};
-ghost use Rattle.tom.specs.Tom.{tomNew};
-ghost use Rattle.sources_c.specs.References.{number_of, waveOf, setOf};
-ghost use Rattle.sources_c.specs.Sources.{dualAnswer, hatAnswer, cymAnswer, tomAnswer};
+ghost use Rattle.envelope.specs.Record.{record_of};
+ghost use Rattle.vco.specs.Vco.{wave_from_bits, wave_at, pair_of};
+ghost use Rattle.dual.specs.Dual.{dual_new};
+ghost use Rattle.hat.specs.Hat.{hat_new};
+ghost use Rattle.cym.specs.Cym.{cym_new};
+ghost use Rattle.tom.specs.Tom.{tom_new};
+ghost use Rattle.sources_c.specs.References.{number_of, wave_of, set_of};
+ghost use Rattle.sources_c.specs.Sources.{dual_answer, hat_answer, cym_answer, tom_answer};
 
 use cym::{Cym, CymOut};
 use dual::{DualOsc, DualOut};
@@ -28,7 +28,7 @@ pub struct RecordBytes {
 
 #[unsafe(no_mangle)]
 pub extern "C" fn rytm_record_parse(r: RecordBytes) -> Record
-    ensures { result ≡ recordOf r.b }
+    ensures { result ≡ record_of r.b }
 {
     let b = r.b;
     Record::parse(b)
@@ -51,7 +51,7 @@ fn number(w: Wave) -> u32
 
 // The waveform of a number; off from 7 on.
 fn wave(n: u32) -> Wave
-    ensures { result ≡ waveOf n }
+    ensures { result ≡ wave_of n }
 {
     match n {
         1 => Wave::Sine,
@@ -66,14 +66,14 @@ fn wave(n: u32) -> Wave
 
 #[unsafe(no_mangle)]
 pub extern "C" fn rytm_wave_from_bits(a: bool, b: bool, c: bool) -> u32
-    ensures { result ≡ number_of (fromBits a b c) }
+    ensures { result ≡ number_of (wave_from_bits a b c) }
 {
     number(Wave::from_bits(a, b, c))
 }
 
 #[unsafe(no_mangle)]
 pub extern "C" fn rytm_wave_at(n: u32, ph: f32) -> f32
-    ensures { result ≡ waveAt (waveOf n) ph }
+    ensures { result ≡ wave_at (wave_of n) ph }
 {
     wave(n).at(ph)
 }
@@ -97,7 +97,7 @@ pub struct NumberedSet {
 
 #[unsafe(no_mangle)]
 pub extern "C" fn rytm_pair_sample(p: Pair, s: NumberedSet, fs: f32) -> PairOut
-    ensures { result ≡ pair_of p (setOf s) fs }
+    ensures { result ≡ pair_of p (set_of s) fs }
 {
     let set = Osc2Set {
         hz1: s.hz1,
@@ -119,35 +119,35 @@ pub extern "C" fn rytm_pair_sample(p: Pair, s: NumberedSet, fs: f32) -> PairOut
 
 #[unsafe(no_mangle)]
 pub extern "C" fn rytm_dual_new() -> DualOsc
-    ensures { result ≡ dualNew }
+    ensures { result ≡ dual_new }
 {
     DualOsc::new()
 }
 
 #[unsafe(no_mangle)]
 pub extern "C" fn rytm_hat_new() -> Hat
-    ensures { result ≡ hatNew }
+    ensures { result ≡ hat_new }
 {
     Hat::new()
 }
 
 #[unsafe(no_mangle)]
 pub extern "C" fn rytm_cym_new() -> Cym
-    ensures { result ≡ cymNew }
+    ensures { result ≡ cym_new }
 {
     Cym::new()
 }
 
 #[unsafe(no_mangle)]
 pub extern "C" fn rytm_tom_new() -> Tom
-    ensures { result ≡ tomNew }
+    ensures { result ≡ tom_new }
 {
     Tom::new()
 }
 
 #[unsafe(no_mangle)]
 pub extern "C" fn rytm_dual_sample(e: DualOsc, f: &[u8], d: usize, w: Wobble) -> DualOut
-    ensures { result ≡ dualAnswer f.now d e w }
+    ensures { result ≡ dual_answer f.now d e w }
 {
     if f.len() < frame::FRAME_BYTES {
         return DualOut { dual: e, w, y: 0.0 };
@@ -157,7 +157,7 @@ pub extern "C" fn rytm_dual_sample(e: DualOsc, f: &[u8], d: usize, w: Wobble) ->
 
 #[unsafe(no_mangle)]
 pub extern "C" fn rytm_hat_sample(h: Hat, f: &[u8], w: Wobble) -> HatOut
-    ensures { result ≡ hatAnswer f.now h w }
+    ensures { result ≡ hat_answer f.now h w }
 {
     if f.len() < frame::FRAME_BYTES {
         return HatOut { hat: h, w, y: 0.0 };
@@ -167,7 +167,7 @@ pub extern "C" fn rytm_hat_sample(h: Hat, f: &[u8], w: Wobble) -> HatOut
 
 #[unsafe(no_mangle)]
 pub extern "C" fn rytm_cym_sample(c: Cym, f: &[u8], w: Wobble) -> CymOut
-    ensures { result ≡ cymAnswer f.now c w }
+    ensures { result ≡ cym_answer f.now c w }
 {
     if f.len() < frame::FRAME_BYTES {
         return CymOut { cym: c, w, y: 0.0 };
@@ -177,7 +177,7 @@ pub extern "C" fn rytm_cym_sample(c: Cym, f: &[u8], w: Wobble) -> CymOut
 
 #[unsafe(no_mangle)]
 pub extern "C" fn rytm_tom_sample(o: Tom, f: &[u8], t: usize, d: i32, w: Wobble) -> TomOut
-    ensures { result ≡ tomAnswer f.now t d o w }
+    ensures { result ≡ tom_answer f.now t d o w }
 {
     if f.len() < frame::FRAME_BYTES {
         return TomOut { tom: o, w, y: 0.0 };

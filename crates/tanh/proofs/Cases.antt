@@ -7,14 +7,14 @@ use native.Mathlib.Omega.{arith}
 use lib.IntN.{ℤ}
 use lib.Ieee.{fin, up, down}
 use Rattle.series.specs.Near.{Relative}
-use Rattle.power.specs.Exact.{twoNum, twoDen}
+use Rattle.power.specs.Exact.{two_num, two_den}
 use Rattle.power.proofs.Numbers.{M}
-use Rattle.tanh.specs.Tanh.{twoLog2E, decayOf, quotient_of}
+use Rattle.tanh.specs.Tanh.{two_log2_e, decay_of, quotient_of}
 use Rattle.tanh.proofs.Pair.{K, lesser, greater}
-use Rattle.tanh.proofs.Rounding.{tanh-rounding-over, tanh-rounding-under}
-use Rattle.tanh.proofs.Method.{decay-pos, decay-lt, tanh-reduction}
-use Rattle.tanh.proofs.Tiny.{tiny-over, tiny-under}
-use Rattle.tanh.proofs.Far.{far, far-over, far-under}
+use Rattle.tanh.proofs.Rounding.{tanh_rounding_over, tanh_rounding_under}
+use Rattle.tanh.proofs.Method.{decay_pos, decay_lt, tanh_reduction}
+use Rattle.tanh.proofs.Tiny.{tiny_over, tiny_under}
+use Rattle.tanh.proofs.Far.{far, far_over, far_under}
 use Rattle.tanh.proofs.Sign.{Close}
 use Rattle.power.proofs.Numbers.{P}
 
@@ -26,63 +26,63 @@ module _ (s : Bool) (a c : ℕ) (cp : 0 < c) where
   d = c * M
 
   abbrev pub X : ℕ
-  X = lesser s (twoNum s v d) (twoDen s v d)
+  X = lesser s (two_num s v d) (two_den s v d)
 
   abbrev pub Y : ℕ
-  Y = greater s (twoNum s v d) (twoDen s v d)
+  Y = greater s (two_num s v d) (two_den s v d)
 
-  pub small-case : 1024 * a ≤ c → Close X Y a c
-  small-case h = record { over = λ B Z p q. tiny-over s a c cp h B Z p q; under = λ B Z p q. tiny-under s a c cp h B Z p q }
+  pub small_case : 1024 * a ≤ c → Close X Y a c
+  small_case h = record { over = λ B Z p q. tiny_over s a c cp h B Z p q; under = λ B Z p q. tiny_under s a c cp h B Z p q }
 
-  pub large-case : 10 * c ≤ a → Close X Y 1 1
-  large-case h = record { over = λ B Z p q. far-over X Y B Z (far a c cp h s) p q; under = λ B Z p q. far-under X Y B Z p q }
+  pub large_case : 10 * c ≤ a → Close X Y 1 1
+  large_case h = record { over = λ B Z p q. far_over X Y B Z (far a c cp h s) p q; under = λ B Z p q. far_under X Y B Z p q }
 
   module _ (lo : c ≤ 1024 * a) (hi : a ≤ 10 * c) where
     abbrev u : ℕ
-    u = a * P / c * twoLog2E / P
+    u = a * P / c * two_log2_e / P
 
-    size-lo : 4194304 ≤ a * P / c
-    size-lo = (le-div_iff_mul-le cp).1 (omega arith)
+    size_lo : 4194304 ≤ a * P / c
+    size_lo = (le-div_iff_mul-le cp).1 (omega arith)
 
-    pub size-hi : a * P / c ≤ 10 * P
-    size-hi = le_of_mul-le-mul_right {k = c} (le_trans (div-mul-le_self (a * P) c) (omega (arith, mul-le-mul_right P hi))) cp
+    pub size_hi : a * P / c ≤ 10 * P
+    size_hi = le_of_mul-le-mul_right {k = c} (le_trans (div-mul-le_self (a * P) c) (omega (arith, mul-le-mul_right P hi))) cp
 
-    pub u-lo : 12000000 ≤ a * P / c * twoLog2E / P
-    u-lo = omega (arith, size-lo)
+    pub u_lo : 12000000 ≤ a * P / c * two_log2_e / P
+    u_lo = omega (arith, size_lo)
 
-    pub u-hi : a * P / c * twoLog2E / P ≤ 30 * P
-    u-hi = omega (arith, size-hi)
+    pub u_hi : a * P / c * two_log2_e / P ≤ 30 * P
+    u_hi = omega (arith, size_hi)
 
     abbrev e : ℕ
-    e = decayOf u
+    e = decay_of u
 
-    pub e-hi : decayOf (a * P / c * twoLog2E / P) ≤ 4290000000
-    e-hi = decay-lt u u-hi u-lo
+    pub e_hi : decay_of (a * P / c * two_log2_e / P) ≤ 4290000000
+    e_hi = decay_lt u u_hi u_lo
 
     abbrev pub q : ℕ
     q = quotient_of e
 
-    q-over : q * (P + e) ≤ (P - e) * 2147483648
+    q_over : q * (P + e) ≤ (P - e) * 2147483648
     unfolding quotient_of
-    q-over = div-mul-le_self ((P - e) * 2147483648) (P + e)
+    q_over = div-mul-le_self ((P - e) * 2147483648) (P + e)
 
-    q-under : (P - e) * 2147483648 ≤ (q + 1) * (P + e)
+    q_under : (P - e) * 2147483648 ≤ (q + 1) * (P + e)
     unfolding quotient_of
-    q-under = simp (add-mul, one-mul) (omega (arith, lt-div-mul-add {a = (P - e) * 2147483648} {b = P + e} (omega arith), add-mul q 1 (P + e)))
+    q_under = simp (add-mul, one-mul) (omega (arith, lt-div-mul-add {a = (P - e) * 2147483648} {b = P + e} (omega arith), add-mul q 1 (P + e)))
 
-    pub q-hi : q < 2147483648
-    q-hi = lt_of_mul-lt-mul_right (P + e) (lt_of_le_of_lt q-over (omega (arith, decay-pos u u-hi)))
+    pub q_hi : q < 2147483648
+    q_hi = lt_of_mul-lt-mul_right (P + e) (lt_of_le_of_lt q_over (omega (arith, decay_pos u u_hi)))
 
-    pub q-lo : 0 < q
+    pub q_lo : 0 < q
     unfolding quotient_of
-    q-lo = (le-div_iff_mul-le {k = P + e} (omega arith)).1 (omega (arith, e-hi))
+    q_lo = (le-div_iff_mul-le {k = P + e} (omega arith)).1 (omega (arith, e_hi))
 
-    pub between-case : (m : ℕ) (i : ℤ) → Relative (2 ^ 24) q (2 ^ 31) (fin false m i) → Close X Y (m * up i) (down i)
-    between-case m i h =
-        let k = tanh-reduction s a c cp hi u-hi in
-        let el : e ≤ P = omega (arith, e-hi) in
-        let ed : P - e + e ≡ P = omega (arith, e-hi) in
+    pub between_case : (m : ℕ) (i : ℤ) → Relative (2 ^ 24) q (2 ^ 31) (fin false m i) → Close X Y (m * up i) (down i)
+    between_case m i h =
+        let k = tanh_reduction s a c cp hi u_hi in
+        let el : e ≤ P = omega (arith, e_hi) in
+        let ed : P - e + e ≡ P = omega (arith, e_hi) in
         record {
-          over = λ B Z p r. tanh-rounding-over e X B Y Z (P - e) k el ed p r q (m * up i) (down i) q-over q-under (le_of_lt q-hi) h.1 h.2;
-          under = λ B Z p r. tanh-rounding-under e X B Y Z (P - e) k el ed p r q (m * up i) (down i) q-over q-under (le_of_lt q-hi) h.1 h.2;
+          over = λ B Z p r. tanh_rounding_over e X B Y Z (P - e) k el ed p r q (m * up i) (down i) q_over q_under (le_of_lt q_hi) h.1 h.2;
+          under = λ B Z p r. tanh_rounding_under e X B Y Z (P - e) k el ed p r q (m * up i) (down i) q_over q_under (le_of_lt q_hi) h.1 h.2;
         }

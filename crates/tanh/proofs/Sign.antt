@@ -15,9 +15,9 @@ use lib.Ieee.Exact.{HasValue}
 use Rattle.series.specs.Near.{Absolute}
 use Rattle.fixed.specs.Fixed.{with_sign}
 use Rattle.fixed.proofs.Fields.{down_pos}
-use Rattle.fixed.proofs.Order.{le-make, same_number}
-use Rattle.power.specs.Power.{zeroF}
-use Rattle.tanh.specs.Tanh.{one, tiny, above_of, tanhOf}
+use Rattle.fixed.proofs.Order.{le_make, same_number}
+use Rattle.power.specs.Power.{zero_f}
+use Rattle.tanh.specs.Tanh.{one, tiny, above_of, tanh_of}
 use Rattle.tanh.proofs.Pair.{lesser, greater}
 
 -- x / w is at most 1 / 2 ^ 18 from (Y - X) / (Y + X)
@@ -46,59 +46,59 @@ up_pos : (e : ℤ) → 0 < up e
 up_pos (pos k) = pow_pos k
 up_pos (negsuc k) = lit< tt
 
-not-below : (m : ℕ) (e : ℤ) → T (not (lt (fin false m e) zeroF))
+not_below : (m : ℕ) (e : ℤ) → T (not (lt (fin false m e) zero_f))
 unfolding lt
-not-below m e = le→nltb (m * up e * 1) (0 * 1 * down e) (omega arith)
+not_below m e = le→nltb (m * up e * 1) (0 * 1 * down e) (omega arith)
 
-zero-not-below : (e : ℤ) → T (not (lt (fin true 0 e) zeroF))
+zero_not_below : (e : ℤ) → T (not (lt (fin true 0 e) zero_f))
 unfolding lt
-zero-not-below e = le→nltb 0 (0 * up e * 1 + 0 * 1 * down e) (omega arith)
+zero_not_below e = le→nltb 0 (0 * up e * 1 + 0 * 1 * down e) (omega arith)
 
-zero-tiny : (s : Bool) (e : ℤ) → T (lt (fin s 0 e) tiny)
+zero_tiny : (s : Bool) (e : ℤ) → T (lt (fin s 0 e) tiny)
 unfolding lt
-zero-tiny true e = lt→ltb 0 (0 * up e * 1024 + 1 * 1 * down e) (omega (arith, down_pos e))
-zero-tiny false e = lt→ltb (0 * up e * 1024) (1 * 1 * down e) (omega (arith, down_pos e))
+zero_tiny true e = lt→ltb 0 (0 * up e * 1024 + 1 * 1 * down e) (omega (arith, down_pos e))
+zero_tiny false e = lt→ltb (0 * up e * 1024) (1 * 1 * down e) (omega (arith, down_pos e))
 
-below-zero : (m : ℕ) (e : ℤ) → T (lt (fin true (suc m) e) zeroF)
+below_zero : (m : ℕ) (e : ℤ) → T (lt (fin true (suc m) e) zero_f)
 unfolding lt
-below-zero m e = lt→ltb 0 (suc m * up e * 1 + 0 * 1 * down e) (omega (arith, mul-pos {m = suc m} (omega arith) (up_pos e)))
+below_zero m e = lt→ltb 0 (suc m * up e * 1 + 0 * 1 * down e) (omega (arith, mul-pos {m = suc m} (omega arith) (up_pos e)))
 
 zero_is : (s : Bool) (e : ℤ) → above_of (fin s 0 e) ≡ fin s 0 e
 unfolding above_of
-zero_is s e = rw (is_true (lt (fin s 0 e) tiny) (zero-tiny s e))
+zero_is s e = rw (is_true (lt (fin s 0 e) tiny) (zero_tiny s e))
 
 number : (s : Bool) (m : ℕ) (e : ℤ) → ne (fin s m e) (fin s m e) ≡ false
 number s m e = same_number (fin s m e) (unfold is_nan in tt)
 
-pub tanh-is : (s : Bool) (m : ℕ) (e : ℤ) → tanhOf (fin s m e) ≡ with_sign s (above_of (fin false m e))
-unfolding tanhOf neg
-tanh-is false m e = rw (number false m e, is_false (lt (fin false m e) zeroF) (not-below m e))
-tanh-is true zero e = rw (number true 0 e, is_false (lt (fin true 0 e) zeroF) (zero-not-below e), zero_is true e, zero_is false e)
-tanh-is true (suc m) e = rw (number true (suc m) e, is_true (lt (fin true (suc m) e) zeroF) (below-zero m e))
+pub tanh_is : (s : Bool) (m : ℕ) (e : ℤ) → tanh_of (fin s m e) ≡ with_sign s (above_of (fin false m e))
+unfolding tanh_of neg
+tanh_is false m e = rw (number false m e, is_false (lt (fin false m e) zero_f) (not_below m e))
+tanh_is true zero e = rw (number true 0 e, is_false (lt (fin true 0 e) zero_f) (zero_not_below e), zero_is true e, zero_is false e)
+tanh_is true (suc m) e = rw (number true (suc m) e, is_true (lt (fin true (suc m) e) zero_f) (below_zero m e))
 
-neg-neg : (x : Float) → x ≡ neg (neg x)
+neg_neg : (x : Float) → x ≡ neg (neg x)
 unfolding neg
-neg-neg nan = refl
-neg-neg (inf true) = refl
-neg-neg (inf false) = refl
-neg-neg (fin true m e) = refl
-neg-neg (fin false m e) = refl
+neg_neg nan = refl
+neg_neg (inf true) = refl
+neg_neg (inf false) = refl
+neg_neg (fin true m e) = refl
+neg_neg (fin false m e) = refl
 
-pub tanh-odd : (x : Float) → tanhOf (neg x) ≡ neg (tanhOf x)
-tanh-odd nan = unfold tanhOf neg ne eq in refl
-tanh-odd (inf true) = unfold tanhOf above_of neg ne eq lt le in refl
-tanh-odd (inf false) = unfold tanhOf above_of neg ne eq lt le in refl
-tanh-odd (fin true m e) = unfold neg in tanh-is false m e ∙ neg-neg (above_of (fin false m e)) ∙ ap neg (sym (tanh-is true m e))
-tanh-odd (fin false m e) = unfold neg in tanh-is true m e ∙ ap neg (sym (tanh-is false m e))
+pub tanh_odd : (x : Float) → tanh_of (neg x) ≡ neg (tanh_of x)
+tanh_odd nan = unfold tanh_of neg ne eq in refl
+tanh_odd (inf true) = unfold tanh_of above_of neg ne eq lt le in refl
+tanh_odd (inf false) = unfold tanh_of above_of neg ne eq lt le in refl
+tanh_odd (fin true m e) = unfold neg in tanh_is false m e ∙ neg_neg (above_of (fin false m e)) ∙ ap neg (sym (tanh_is true m e))
+tanh_odd (fin false m e) = unfold neg in tanh_is true m e ∙ ap neg (sym (tanh_is false m e))
 
 -- ---- never beyond 1
-small-value : (n d a c : ℕ) → 0 < c → n * c ≡ a * d → a ≤ c → n ≤ d
-small-value n d a c cp e h = le_of_mul-le-mul_right {k = c} (le_trans (le_of_eq e) (le_trans (mul-le-mul_right d h) (le_of_eq (mul_comm c d)))) cp
+small_value : (n d a c : ℕ) → 0 < c → n * c ≡ a * d → a ≤ c → n ≤ d
+small_value n d a c cp e h = le_of_mul-le-mul_right {k = c} (le_trans (le_of_eq e) (le_trans (mul-le-mul_right d h) (le_of_eq (mul_comm c d)))) cp
 
 pub bounded : (s : Bool) (r : Float) (a c : ℕ) → 0 < c → HasValue r false a c → a ≤ c → T (le (fin true 1 (pos 0)) (with_sign s r)) × T (le (with_sign s r) one)
 unfolding neg
 bounded s nan a c cp v h = absurd v
 bounded s (inf t) a c cp v h = absurd v
 bounded s (fin true n i) a c cp v h = absurd (true≢false v.0)
-bounded true (fin false n i) a c cp v h = let g = small-value (n * up i) (down i) a c cp v.1 h in (le-make true 1 (pos 0) true n i (omega arith), le-make true n i false 1 (pos 0) tt)
-bounded false (fin false n i) a c cp v h = let g = small-value (n * up i) (down i) a c cp v.1 h in (le-make true 1 (pos 0) false n i tt, le-make false n i false 1 (pos 0) (omega arith))
+bounded true (fin false n i) a c cp v h = let g = small_value (n * up i) (down i) a c cp v.1 h in (le_make true 1 (pos 0) true n i (omega arith), le_make true n i false 1 (pos 0) tt)
+bounded false (fin false n i) a c cp v h = let g = small_value (n * up i) (down i) a c cp v.1 h in (le_make true 1 (pos 0) false n i tt, le_make false n i false 1 (pos 0) (omega arith))

@@ -1,8 +1,8 @@
 // The hyperbolic tangent. Qk is a whole number that stands for itself over 2^k.
 ghost use Rattle.std.specs.Prelude.{◌≡◌, ◌≤◌, T};
 ghost use Rattle.std.specs.Float.Ieee.{le};
-ghost use Rattle.power.specs.Power.{zeroF};
-ghost use Rattle.tanh.specs.Tanh.{decayOf, quotient_of, above_of, tanhOf};
+ghost use Rattle.power.specs.Power.{zero_f};
+ghost use Rattle.tanh.specs.Tanh.{decay_of, quotient_of, above_of, tanh_of};
 ghost use Rattle.tanh.specs.Near.{TanhNear};
 
 // 2 log2 e in Q32
@@ -11,7 +11,7 @@ const TWO_LOG2_E: u64 = 12392656037;
 // 2^-u in Q32, for a u of Q32
 fn decay(u: u64) -> u64
     requires { u ≤ 128849018880 }
-    ensures { (result ≡ decayOf u) × (result ≤ 4294967296) }
+    ensures { (result ≡ decay_of u) × (result ≤ 4294967296) }
 {
     let w = 549755813888 - u; // Q32
     power::fraction(w % 4294967296) >> (128 - w / 4294967296)
@@ -27,7 +27,7 @@ fn quotient(e: u64) -> u64
 
 // of an a that is not below 0
 fn above(a: f32) -> f32
-    requires { T (le zeroF a) }
+    requires { T (le zero_f a) }
     ensures { result ≡ above_of a }
 {
     if a < 0.0009765625 {
@@ -41,7 +41,7 @@ fn above(a: f32) -> f32
 }
 
 pub fn tanh(x: f32) -> f32
-    ensures is { result ≡ tanhOf x }
+    ensures is { result ≡ tanh_of x }
     ensures near { TanhNear x result }
 {
     if x != x {

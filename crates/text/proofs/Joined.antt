@@ -10,24 +10,24 @@ use lib.Seq.{drop-cons}
 use lib.IntN.{ℤ, pos, negsuc, nat_abs}
 use lib.Signed.{lt_z}
 use borrow.Author.Tests.{lt-ltb, le-ltb, ltb-true}
-use Rattle.text.specs.Text.{digitsOf, decimalOf, signed_of, words_of}
+use Rattle.text.specs.Text.{digits_of, decimal_of, signed_of, words_of}
 
-pub one-digit : (k n : ℕ) → (k ≡ 0 → ⊥) → n < 10 → digitsOf k n ≡ (48 + n) ∷ []
-unfolding digitsOf
-one-digit zero n f h = absurd (f refl)
-one-digit (suc k) n f h = rw (lt-ltb n 10 h)
+pub one_digit : (k n : ℕ) → (k ≡ 0 → ⊥) → n < 10 → digits_of k n ≡ (48 + n) ∷ []
+unfolding digits_of
+one_digit zero n f h = absurd (f refl)
+one_digit (suc k) n f h = rw (lt-ltb n 10 h)
 
-pub more-digits : (k n : ℕ) → (k ≡ 0 → ⊥) → 10 ≤ n → digitsOf k n ≡ digitsOf (k - 1) (n / 10) ++ ((48 + n % 10) ∷ [])
-unfolding digitsOf
-more-digits zero n f h = absurd (f refl)
-more-digits (suc k) n f h = rw (sub-one, le-ltb n 10 h)
+pub more_digits : (k n : ℕ) → (k ≡ 0 → ⊥) → 10 ≤ n → digits_of k n ≡ digits_of (k - 1) (n / 10) ++ ((48 + n % 10) ∷ [])
+unfolding digits_of
+more_digits zero n f h = absurd (f refl)
+more_digits (suc k) n f h = rw (sub-one, le-ltb n 10 h)
 
-pub with-sign : (w : ℤ) → lt_z w (pos 0) ≡ true → signed_of w ≡ 45 ∷ decimalOf (nat_abs w)
+pub with_sign_lem : (w : ℤ) → lt_z w (pos 0) ≡ true → signed_of w ≡ 45 ∷ decimal_of (nat_abs w)
 unfolding signed_of
-with-sign (pos n) h = absurd (omega (arith, ltb-true n 0 h))
-with-sign (negsuc n) h = refl
+with_sign_lem (pos n) h = absurd (omega (arith, ltb-true n 0 h))
+with_sign_lem (negsuc n) h = refl
 
-pub without_sign : (w : ℤ) → lt_z w (pos 0) ≡ false → signed_of w ≡ decimalOf (nat_abs w)
+pub without_sign : (w : ℤ) → lt_z w (pos 0) ≡ false → signed_of w ≡ decimal_of (nat_abs w)
 unfolding signed_of
 without_sign (pos n) h = refl
 without_sign (negsuc n) h = absurd (true≢false h)

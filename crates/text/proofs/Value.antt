@@ -6,28 +6,28 @@ use native.Mathlib.Nat.{div-add-mod', pow-succ'}
 use mathlib.Core.Path.{◌≡◌, refl}
 use mathlib.Core.List.{List, [], ◌∷◌, ◌++◌}
 use borrow.Author.Tests.{lt-ltb, le-ltb}
-use Rattle.text.specs.Text.{digitsOf, decimalOf, read_of}
+use Rattle.text.specs.Text.{digits_of, decimal_of, read_of}
 
-read-after : (n : ℕ) (xs ys : List ℕ) → read_of n (xs ++ ys) ≡ read_of (read_of n xs) ys
+read_after : (n : ℕ) (xs ys : List ℕ) → read_of n (xs ++ ys) ≡ read_of (read_of n xs) ys
 unfolding read_of
-read-after n [] ys = refl
-read-after n (d ∷ ds) ys = read-after (n * 10 + (d - 48)) ds ys
+read_after n [] ys = refl
+read_after n (d ∷ ds) ys = read_after (n * 10 + (d - 48)) ds ys
 
-last-digit : (n : ℕ) → n / 10 * 10 + (48 + n % 10 - 48) ≡ n
-last-digit n = omega (arith, div-add-mod' n 10)
+last_digit : (n : ℕ) → n / 10 * 10 + (48 + n % 10 - 48) ≡ n
+last_digit n = omega (arith, div-add-mod' n 10)
 
-digits-read : (k n : ℕ) → n < 10 ^ k → read_of 0 (digitsOf k n) ≡ n
-unfolding digitsOf read_of
-digits-read zero n h = omega arith
-digits-read (suc k) n h = by (λ l. digits-read k (n / 10) l) (dec_lt n 10)
+digits_read : (k n : ℕ) → n < 10 ^ k → read_of 0 (digits_of k n) ≡ n
+unfolding digits_of read_of
+digits_read zero n h = omega arith
+digits_read (suc k) n h = by (λ l. digits_read k (n / 10) l) (dec_lt n 10)
   where
     tenth : n / 10 < 10 ^ k
     tenth = let e = pow-succ' 10 k in omega (arith, div-add-mod' n 10)
 
-    by : (n / 10 < 10 ^ k → read_of 0 (digitsOf k (n / 10)) ≡ n / 10) → Dec (n < 10) → read_of 0 (digitsOf (suc k) n) ≡ n
+    by : (n / 10 < 10 ^ k → read_of 0 (digits_of k (n / 10)) ≡ n / 10) → Dec (n < 10) → read_of 0 (digits_of (suc k) n) ≡ n
     by rec (yes l) = rw (lt-ltb n 10 l) (omega arith)
-    by rec (no l) = rw (le-ltb n 10 (omega arith), read-after 0 (digitsOf k (n / 10)) ((48 + n % 10) ∷ []), rec tenth) (last-digit n)
+    by rec (no l) = rw (le-ltb n 10 (omega arith), read_after 0 (digits_of k (n / 10)) ((48 + n % 10) ∷ []), rec tenth) (last_digit n)
 
 -- every number of 32 bits
-pub decimal-reads : (n : ℕ) → n < 2 ^ 32 → read_of 0 (decimalOf n) ≡ n
-decimal-reads n h = digits-read 10 n (omega arith)
+pub decimal_reads : (n : ℕ) → n < 2 ^ 32 → read_of 0 (decimal_of n) ≡ n
+decimal_reads n h = digits_read 10 n (omega arith)

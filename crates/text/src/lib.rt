@@ -1,7 +1,7 @@
 // Numbers as text, put into a lent page one after the other: each function takes the place where it starts and gives the place after its text.
 // The kit's `io` has decimal digits too, at the start of an array of their own, and no signed numbers.
 ghost use Rattle.std.specs.Prelude.{◌≡◌, [], ◌∷◌, ◌++◌, ◌+◌, ◌*◌, ◌≤◌, ◌<◌, length, take, nat_abs};
-ghost use Rattle.text.specs.Text.{digitsOf, signed_of, words_of};
+ghost use Rattle.text.specs.Text.{digits_of, signed_of, words_of};
 
 pub fn put(out: &mut [u8], at: usize, b: u8) -> usize
     requires { at < length out.old }
@@ -16,7 +16,7 @@ pub fn put(out: &mut [u8], at: usize, b: u8) -> usize
 pub fn digits(out: &mut [u8], at: usize, n: u32, most: usize) -> usize
     requires { at + most ≤ length out.old }
     ensures upper_bound { result ≤ at + most }
-    ensures out_after { take result out.new ≡ take at out.old ++ digitsOf most n }
+    ensures out_after { take result out.new ≡ take at out.old ++ digits_of most n }
 {
     if most == 0 {
         return at;

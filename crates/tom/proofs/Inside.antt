@@ -2,8 +2,8 @@
 use mathlib.Core.Path.{◌≡◌, sym, subst}
 use Prim.Native.Nat.{ℕ}
 use Rattle.frame.specs.declared.TomSpec.{TomSpec}
-use Rattle.frame.specs.Offsets.{tomSpec}
-use Rattle.frame.proofs.Tables.{TomInside, tom-inside}
+use Rattle.frame.specs.Offsets.{tom_spec}
+use Rattle.frame.proofs.Tables.{TomInside, tom_inside_lem}
 
-pub inside : {s : TomSpec} (t : ℕ) → s ≡ tomSpec t → TomInside s
-inside {s} t e = subst TomInside (sym e) (tom-inside t)
+pub inside : {s : TomSpec} (t : ℕ) → s ≡ tom_spec t → TomInside s
+inside {s} t e = subst TomInside (sym e) (tom_inside_lem t)

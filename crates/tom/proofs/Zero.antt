@@ -10,10 +10,10 @@ use mir.Val.{of_z, hbits}
 use borrow.Author.Tests.{eq-eqb, ne_eqb}
 use Rattle.tom.specs.Tom.{is_zero}
 
-pub zero-yes : (d : ℤ) → of_z w32 d ≡ 0 → mag d < 2 ^ hbits w32 → is_zero d ≡ true
-zero-yes (pos n) e f = eq-eqb n 0 e
-zero-yes (negsuc n) e f = absurd (omega arith)
+pub zero_yes : (d : ℤ) → of_z w32 d ≡ 0 → mag d < 2 ^ hbits w32 → is_zero d ≡ true
+zero_yes (pos n) e f = eq-eqb n 0 e
+zero_yes (negsuc n) e f = absurd (omega arith)
 
-pub zero-no : (d : ℤ) → (of_z w32 d ≡ 0 → ⊥) → is_zero d ≡ false
-zero-no (pos n) h = ne_eqb n 0 h
-zero-no (negsuc n) h = refl
+pub zero_no : (d : ℤ) → (of_z w32 d ≡ 0 → ⊥) → is_zero d ≡ false
+zero_no (pos n) h = ne_eqb n 0 h
+zero_no (negsuc n) h = refl

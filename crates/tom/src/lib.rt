@@ -1,7 +1,7 @@
 // A tom: a resonator that the DAC word of its exciter rings.
 ghost use Rattle.std.specs.Prelude.{◌≡◌, Bool, ◌≤◌, length};
-ghost use Rattle.frame.specs.Offsets.{FRAME-BYTES};
-ghost use Rattle.tom.specs.Tom.{tomNew, exciteOf, hzOf, decayOf, ringOf, sampleOf};
+ghost use Rattle.frame.specs.Offsets.{FRAME_BYTES};
+ghost use Rattle.tom.specs.Tom.{tom_new, excite_of, hz_of, decay_of, ring_of, sample_of};
 
 use wobble::{DETUNE_CENTS, Wobble};
 
@@ -39,7 +39,7 @@ pub struct Excited {
 
 // A nonzero word after a rest is a hit, which draws its detune.
 fn excite(det: f32, quiet: u32, d: i32, w: Wobble) -> Excited
-    ensures { result ≡ exciteOf det quiet d w }
+    ensures { result ≡ excite_of det quiet d w }
 {
     if d == 0 {
         return Excited {
@@ -61,14 +61,14 @@ fn excite(det: f32, quiet: u32, d: i32, w: Wobble) -> Excited
 }
 
 fn hz(cv: f32, det: f32) -> f32
-    ensures { result ≡ hzOf cv det }
+    ensures { result ≡ hz_of cv det }
 {
     TOM_HZ_PER_X * root::sqrt(2048.0 * cv) * det
 }
 
 // How much of its ring a sample keeps: 30 ms at 0 to 1.5 s at full scale.
 fn decay(d: f32) -> f32
-    ensures { result ≡ decayOf d }
+    ensures { result ≡ decay_of d }
 {
     let tau = 0.03 * power::exp2(float::max(d, 0.0) * 5.64);
     power::exp(-1.0 / (tau * float::FS))
@@ -76,7 +76,7 @@ fn decay(d: f32) -> f32
 
 // The resonator's next sample, its input scaled so that the ring's peak does not grow with its length.
 fn ring(t: Tom, hz: f32, r: f32, x: f32) -> f32
-    ensures { result ≡ ringOf t hz r x }
+    ensures { result ≡ ring_of t hz r x }
 {
     let w = float::TAU * float::min(hz, 12000.0) / float::FS;
     2.0 * r * sine::cos(w) * t.y1 - r * r * t.y2 + x * (1.0 - r)
@@ -84,7 +84,7 @@ fn ring(t: Tom, hz: f32, r: f32, x: f32) -> f32
 
 impl Tom {
     pub fn new() -> Tom
-        ensures { result ≡ tomNew }
+        ensures { result ≡ tom_new }
     {
         Tom {
             y1: 0.0,
@@ -96,8 +96,8 @@ impl Tom {
 
     // One sample of tom t (0 BT, 1 LT, 2 MT/HT), whose exciter's DAC word is d.
     pub fn sample(self, f: &[u8], t: usize, d: i32, w: Wobble) -> TomOut
-        requires { FRAME-BYTES ≤ length f.now }
-        ensures { result ≡ sampleOf f.now t d self w }
+        requires { FRAME_BYTES ≤ length f.now }
+        ensures { result ≡ sample_of f.now t d self w }
     {
         let s = frame::tom_spec(t);
         let x = float::from_i32(d) / 8388608.0;

@@ -1,6 +1,6 @@
 // The dual-oscillator core of the BD, SD and RS voices: two oscillators, each with a waveform, and FM and ring modulation between them.
 ghost use Rattle.std.specs.Prelude.{◌≡◌, Bool};
-ghost use Rattle.vco.specs.Vco.{fromBits, waveAt, asymOf, oscOf, ringOf, modulated, advanced, advancedFm, KeepsBelowOne, pair_of};
+ghost use Rattle.vco.specs.Vco.{wave_from_bits, wave_at, asym_of, osc_of, ring_of, modulated, advanced, advanced_fm, KeepsBelowOne, pair_of};
 
 // FM depth: units of oscillator 2's level word per 1.0 of relative frequency deviation.
 pub const FM_UNITS: f32 = 4096.0;
@@ -18,7 +18,7 @@ pub enum Wave {
 
 // The asymmetric sine's place in its turn: the first half-cycle takes 35 % of the period.
 fn asym(ph: f32) -> f32
-    ensures { result ≡ asymOf ph }
+    ensures { result ≡ asym_of ph }
 {
     float::choose(ph < 0.35, ph / 0.7, 0.5 + (ph - 0.35) / 1.3)
 }
@@ -26,7 +26,7 @@ fn asym(ph: f32) -> f32
 impl Wave {
     // The waveform of the bits (a, b, c).
     pub fn from_bits(a: bool, b: bool, c: bool) -> Wave
-        ensures { result ≡ fromBits a b c }
+        ensures { result ≡ wave_from_bits a b c }
     {
         if a {
             if b {
@@ -47,7 +47,7 @@ impl Wave {
 
     // The waveform at phase `ph` (0..1).
     pub fn at(self, ph: f32) -> f32
-        ensures { result ≡ waveAt self ph }
+        ensures { result ≡ wave_at self ph }
     {
         match self {
             Wave::Off => 0.0,
@@ -98,7 +98,7 @@ pub struct PairOut {
 
 // A stopped core gives a constant.
 fn osc(stopped: bool, wave: Wave, ph: f32) -> f32
-    ensures { result ≡ oscOf stopped wave ph }
+    ensures { result ≡ osc_of stopped wave ph }
 {
     if stopped {
         return 1.0;
@@ -108,7 +108,7 @@ fn osc(stopped: bool, wave: Wave, ph: f32) -> f32
 
 // Ring modulation of o1: times a square from oscillator 2's core, whatever its waveform.
 fn ring(on: bool, o1: f32, stopped: bool, ph: f32) -> f32
-    ensures { result ≡ ringOf on o1 stopped ph }
+    ensures { result ≡ ring_of on o1 stopped ph }
 {
     let square = float::choose(stopped | (ph < 0.5), 1.0, -1.0);
     float::choose(on, o1 * square, o1)
@@ -130,7 +130,7 @@ pub fn advance(ph: f32, hz: f32, fs: f32) -> f32
 
 // The same of a modulated core, which can run backwards: the Euclidean remainder, and 0 where that rounds to 1.
 pub fn advance_fm(ph: f32, hz: f32, fs: f32) -> f32
-    ensures is { result ≡ advancedFm ph hz fs }
+    ensures is { result ≡ advanced_fm ph hz fs }
     ensures below { KeepsBelowOne ph hz fs result }
 {
     let r = float::rem_euclid_one(ph + hz / fs);

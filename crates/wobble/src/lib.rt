@@ -1,6 +1,6 @@
 // The imperfections of analog parts: the random source that all voices share, and an oscillator's slow drift.
 ghost use Rattle.std.specs.Prelude.{◌≡◌, Bool};
-ghost use Rattle.wobble.specs.Wobble.{xorshiftOf, newOf, uniOf, detuneOf, phaseOf, driftNew, driftOf};
+ghost use Rattle.wobble.specs.Wobble.{xorshift_of, new_of, uni_of, detune_of, phase_of, drift_new, drift_of};
 
 // A board's seed where none is given.
 pub const DEFAULT_SEED: u32 = 0x2545F491;
@@ -30,7 +30,7 @@ pub struct Drawn {
 }
 
 fn xorshift(s: u32) -> u32
-    ensures { result ≡ xorshiftOf s }
+    ensures { result ≡ xorshift_of s }
 {
     let a = s ^ (s << 13);
     let b = a ^ (a >> 17);
@@ -40,7 +40,7 @@ fn xorshift(s: u32) -> u32
 impl Wobble {
     // Seed 0 counts as 1.
     pub fn new(seed: u32, ideal: bool) -> Wobble
-        ensures { result ≡ newOf seed ideal }
+        ensures { result ≡ new_of seed ideal }
     {
         let depth = float::choose(ideal, 0.0, 1.0);
         if seed == 0 {
@@ -52,7 +52,7 @@ impl Wobble {
 
     // Uniform in -1..1; `u32::MAX as f32` is 2^32.
     pub fn uni(self) -> Drawn
-        ensures { result ≡ uniOf self }
+        ensures { result ≡ uni_of self }
     {
         let s = xorshift(self.s);
         Drawn {
@@ -66,7 +66,7 @@ impl Wobble {
 
     // A frequency ratio of up to ± `cents`.
     pub fn detune(self, cents: f32) -> Drawn
-        ensures { result ≡ detuneOf self cents }
+        ensures { result ≡ detune_of self cents }
     {
         let d = self.uni();
         let w = d.w;
@@ -78,7 +78,7 @@ impl Wobble {
 
     // A random phase, or 0 for ideal components.
     pub fn phase(self) -> Drawn
-        ensures { result ≡ phaseOf self }
+        ensures { result ≡ phase_of self }
     {
         let d = self.uni();
         let w = d.w;
@@ -107,7 +107,7 @@ pub struct Drifted {
 
 impl Drift {
     pub fn new() -> Drift
-        ensures { result ≡ driftNew }
+        ensures { result ≡ drift_new }
     {
         Drift {
             cents: 0.0,
@@ -118,7 +118,7 @@ impl Drift {
 
     // On every `DRIFT_EVERY`th tick a kick, and the pull back.
     pub fn tick(self, w: Wobble) -> Drifted
-        ensures { result ≡ driftOf self w }
+        ensures { result ≡ drift_of self w }
     {
         if self.n < DRIFT_EVERY - 1 {
             return Drifted {

@@ -11,12 +11,12 @@ use lib.IntN.{ℤ, pos}
 use lib.ListN.{length, drop, get_or, drop_of_length-le}
 use lib.Seq.{drop-cons}
 use borrow.Author.Rules.{rules}
-use Rattle.board.specs.Board.{in_range, allInRange}
+use Rattle.board.specs.Board.{in_range, all_in_range}
 use Rattle.board.proofs.all_in_range.Statement.{statement}
 use Rattle.board.proofs.all_in_range.Tie as tie
 
 abbrev invariant-loop : tie.invariant-loop
-invariant-loop dac ok₀ i₀ ok i = (i ≤ length dac) × (allInRange dac ≡ (ok && allInRange (drop i dac)))
+invariant-loop dac ok₀ i₀ ok i = (i ≤ length dac) × (all_in_range dac ≡ (ok && all_in_range (drop i dac)))
 
 abbrev decreases-loop : tie.decreases-loop
 decreases-loop dac ok₀ i₀ ok i = length dac - i
@@ -25,17 +25,17 @@ and_assoc : (a b d : Bool) → (a && (b && d)) ≡ ((a && b) && d)
 and_assoc true b d = refl
 and_assoc false b d = refl
 
-and-true : (a : Bool) → (a && true) ≡ a
-and-true true = refl
-and-true false = refl
+and_true : (a : Bool) → (a && true) ≡ a
+and_true true = refl
+and_true false = refl
 
-again : (zs : List ℤ) (i : ℕ) (ok r : Bool) → i < length zs → r ≡ in_range (get_or zs i (pos 0)) → allInRange zs ≡ (ok && allInRange (drop i zs)) → allInRange zs ≡ ((ok && r) && allInRange (drop (i + 1) zs))
-unfolding allInRange
-again zs i ok r h e inv = rw (add-one, e, ← and_assoc ok (in_range (get_or zs i (pos 0))) (allInRange (drop (suc i) zs))) (inv ∙ ap (λ (l : List ℤ). ok && allInRange l) (drop-cons zs i (pos 0) h))
+again : (zs : List ℤ) (i : ℕ) (ok r : Bool) → i < length zs → r ≡ in_range (get_or zs i (pos 0)) → all_in_range zs ≡ (ok && all_in_range (drop i zs)) → all_in_range zs ≡ ((ok && r) && all_in_range (drop (i + 1) zs))
+unfolding all_in_range
+again zs i ok r h e inv = rw (add-one, e, ← and_assoc ok (in_range (get_or zs i (pos 0))) (all_in_range (drop (suc i) zs))) (inv ∙ ap (λ (l : List ℤ). ok && all_in_range l) (drop-cons zs i (pos 0) h))
 
-done : (zs : List ℤ) (i : ℕ) (ok : Bool) → length zs ≤ i → allInRange zs ≡ (ok && allInRange (drop i zs)) → ok ≡ allInRange zs
-unfolding allInRange
-done zs i ok h inv = sym (inv ∙ ap (λ (l : List ℤ). ok && allInRange l) (drop_of_length-le zs h) ∙ and-true ok)
+done : (zs : List ℤ) (i : ℕ) (ok : Bool) → length zs ≤ i → all_in_range zs ≡ (ok && all_in_range (drop i zs)) → ok ≡ all_in_range zs
+unfolding all_in_range
+done zs i ok h inv = sym (inv ∙ ap (λ (l : List ℤ). ok && all_in_range l) (drop_of_length-le zs h) ∙ and_true ok)
 
 loop-holds : tie.Need-loop-init invariant-loop decreases-loop
 loop-holds c = (search rules, refl)

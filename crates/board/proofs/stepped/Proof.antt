@@ -1,6 +1,6 @@
 -- `board::stepped` meets its contract: the sources, the chains, the main bus and the compressor, each by its own contract. Assumes nothing.
 use native.Mathlib.Omega.{arith}
-use Rattle.board.specs.Board.{taken_of, steppedOf}
+use Rattle.board.specs.Board.{taken_of, stepped_of}
 use borrow.Author.Rules.{rules}
 use Rattle.board.proofs.stepped.Statement.{statement}
 use Rattle.board.proofs.stepped.Tie as tie
@@ -21,7 +21,7 @@ words-requires : tie.Need-words-requires
 words-requires c κs = search rules
 
 returns : tie.Need-returns
-unfolding steppedOf taken_of
+unfolding stepped_of taken_of
 returns c = rw (← c.before.before.before.before.before.before.before.before.before.before.before.before.before.before.before.before.before.before.before.sound.ensures, ← c.before.before.before.before.before.before.before.before.before.before.before.before.before.before.before.before.voices.ensures, ← c.before.before.before.before.before.before.before.before.before.before.before.before.before.master.ensures, ← c.before.before.before.before.before.before.before.before.before.before.before.process.ensures, ← c.before.before.before.before.before.before.before.words.ensures)
 
 pub stepped-spec : {M : Type 1} → statement M

@@ -2,8 +2,8 @@
 use native.Mathlib.Omega.{arith}
 use mathlib.Core.Path.{refl}
 use Rattle.frame.specs.Frame.{Bytes}
-use Rattle.promise.proofs.Calls.{step-answers}
-use Rattle.board_c.specs.Calls.{numbered, inputsOf}
+use Rattle.promise.proofs.Calls.{step_answers}
+use Rattle.board_c.specs.Calls.{numbered, inputs_of}
 use borrow.Author.Rules.{rules}
 use Rattle.board_c.proofs.rytm_step.Statement.{statement}
 use Rattle.board_c.proofs.rytm_step.Tie as tie
@@ -15,7 +15,7 @@ number-requires : tie.Need-number-requires
 number-requires c κs = search rules
 
 returns : tie.Need-returns
-unfolding numbered inputsOf
+unfolding numbered inputs_of
 returns c =
     let s = c.before.before.before.before in
     let k = s.before.before in
@@ -23,7 +23,7 @@ returns c =
     let B : Bytes a.frame.now = λ i. omega (arith, k.shared-slice-known.given i) in
     record {
       is = rw (← s.step.ensures, ← c.number.ensures);
-      call = step-answers a.board a.frame.now a.dac.now a.fx.now _ _ B refl;
+      call = step_answers a.board a.frame.now a.dac.now a.fx.now _ _ B refl;
     }
 
 pub rytm-step-spec : {M : Type 1} → statement M

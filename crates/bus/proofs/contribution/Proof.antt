@@ -1,5 +1,5 @@
 -- `bus::contribution` meets its contract: a word over 32767. Assumes nothing.
-use Rattle.bus.specs.Bus.{contributionOf}
+use Rattle.bus.specs.Bus.{contribution_of}
 use borrow.Author.Rules.{rules}
 use Rattle.bus.proofs.contribution.Statement.{statement}
 use Rattle.bus.proofs.contribution.Tie as tie
@@ -14,7 +14,7 @@ word-f32-requires : tie.Need-word-f32-requires
 word-f32-requires c κs = search rules
 
 returns : tie.Need-returns
-unfolding contributionOf
+unfolding contribution_of
 returns c = rw (← c.word-f32.ensures)
 
 pub contribution-spec : {M : Type 1} → statement M

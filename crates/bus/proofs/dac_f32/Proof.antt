@@ -5,7 +5,7 @@ use mir.ValLaws.{to_z-of_z}
 use lib.Ieee.{binary32, of_int}
 use lib.IntN.{pos}
 use lib.ListN.{get_or}
-use Rattle.bus.specs.Bus.{dacF}
+use Rattle.bus.specs.Bus.{dac_f}
 use borrow.Author.Rules.{rules}
 use Rattle.bus.proofs.dac_f32.Statement.{statement}
 use Rattle.bus.proofs.dac_f32.Tie as tie
@@ -20,7 +20,7 @@ from-i32-requires : tie.Need-from-i32-requires
 from-i32-requires c κs = search rules
 
 returns : tie.Need-returns
-unfolding dacF
+unfolding dac_f
 returns c =
     rw
     (← (c.from-i32.ensures ∙ ap (of_int binary32)

@@ -1,5 +1,5 @@
 -- `bus::distort` meets its contract: word 0 is the drive. Assumes nothing.
-use Rattle.bus.specs.Bus.{distortOf}
+use Rattle.bus.specs.Bus.{distort_of}
 use borrow.Author.Rules.{rules}
 use Rattle.bus.proofs.distort.Statement.{statement}
 use Rattle.bus.proofs.distort.Tie as tie
@@ -20,11 +20,11 @@ tanh-requires-3 : tie.Need-tanh-requires-3
 tanh-requires-3 c κs = search rules
 
 returns : tie.Need-returns
-unfolding distortOf
+unfolding distort_of
 returns c = rw (← c.before.before.before.before.before.before.before.word-f32.ensures, ← c.before.before.before.before.before.before.clamp.ensures, c.before.before.before.before.before.if1.true, ← c.before.before.before.before.tanh.ensures.0, ← c.before.before.tanh2.ensures.0, ← c.tanh3.ensures.0)
 
 returns-2 : tie.Need-returns-2
-unfolding distortOf
+unfolding distort_of
 returns-2 c = rw (← c.before.before.word-f32.ensures, ← c.before.clamp.ensures, c.if1.false)
 
 pub distort-spec : {M : Type 1} → statement M

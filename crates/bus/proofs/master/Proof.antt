@@ -1,5 +1,5 @@
 -- `bus::master` meets its contract: returns before and after the distortion. Assumes nothing.
-use Rattle.bus.specs.Bus.{masterOf}
+use Rattle.bus.specs.Bus.{master_of}
 use borrow.Author.Rules.{rules}
 use Rattle.bus.proofs.master.Statement.{statement}
 use Rattle.bus.proofs.master.Tie as tie
@@ -26,7 +26,7 @@ returned-requires-4 : tie.Need-returned-requires-4
 returned-requires-4 c κs = search rules
 
 returns : tie.Need-returns
-unfolding masterOf
+unfolding master_of
 returns c = rw (← c.before.before.before.before.before.before.before.before.before.before.returned.ensures, ← c.before.before.before.before.before.before.before.before.returned2.ensures, ← c.before.before.before.before.before.before.distort.ensures, ← c.before.before.before.before.before.returned3.ensures, ← c.before.before.returned4.ensures)
 
 pub master-spec : {M : Type 1} → statement M

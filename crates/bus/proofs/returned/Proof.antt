@@ -5,7 +5,7 @@ use mir.ValLaws.{to_z-of_z}
 use lib.Ieee.{binary32, of_int}
 use lib.IntN.{pos}
 use lib.ListN.{get_or}
-use Rattle.bus.specs.Bus.{returnOf}
+use Rattle.bus.specs.Bus.{return_of}
 use borrow.Author.Rules.{rules}
 use Rattle.bus.proofs.returned.Statement.{statement}
 use Rattle.bus.proofs.returned.Tie as tie
@@ -20,7 +20,7 @@ from-i32-requires : tie.Need-from-i32-requires
 from-i32-requires c κs = search rules
 
 returns : tie.Need-returns
-unfolding returnOf
+unfolding return_of
 returns c =
     rw
     (← (c.from-i32.ensures ∙ ap (of_int binary32)

@@ -5,9 +5,9 @@ use native.Mathlib.Numerals.{add-one}
 use native.Mathlib.Omega.{arith}
 use mir.Syntax.{w32}
 use mir.ValLaws.{to_z-of_z}
-use Rattle.lists.specs.Turns.{turnsOf}
+use Rattle.lists.specs.Turns.{turns_of}
 use Rattle.bus.specs.declared.Bus.{Bus}
-use Rattle.bus.specs.Bus.{input_of, turn_of, voicesOf}
+use Rattle.bus.specs.Bus.{input_of, turn_of, voices_of}
 use borrow.Author.Rules.{rules}
 use Rattle.bus.proofs.voices.Statement.{statement}
 use Rattle.bus.proofs.voices.Tie as tie
@@ -15,13 +15,13 @@ use Rattle.bus.proofs.voices.Tie as tie
 abbrev invariant-loop : tie.invariant-loop
 invariant-loop f dac src chains₀ rx₀ mix₀ v₀ chains rx mix v =
     let now : Bus = record { chains = chains; rx = rx; mix = mix } in
-    (v ≤ 8) × (now ≡ turnsOf v (turn_of f dac src) (record { chains = chains₀; rx = rx₀; mix = mix₀ }))
+    (v ≤ 8) × (now ≡ turns_of v (turn_of f dac src) (record { chains = chains₀; rx = rx₀; mix = mix₀ }))
 
 abbrev decreases-loop : tie.decreases-loop
 decreases-loop f dac src chains₀ rx₀ mix₀ v₀ chains rx mix v = 8 - v
 
 loop-holds : tie.Need-loop-init invariant-loop decreases-loop
-unfolding turnsOf
+unfolding turns_of
 loop-holds c = (search rules, refl)
 
 mul-x : tie.Need-overflow-mul-x invariant-loop decreases-loop
@@ -67,11 +67,11 @@ loop-less : tie.Need-loop-smaller invariant-loop decreases-loop
 loop-less c = search rules
 
 loop-again : tie.Need-loop-preserved invariant-loop decreases-loop
-unfolding turnsOf turn_of input_of
+unfolding turns_of turn_of input_of
 loop-again c = (omega arith, rw (add-one, ← c.before.before.before.before.before.before.before.before.loop.invariant.1, ← c.before.before.before.before.before.before.dac-f32.ensures, ← c.before.before.before.before.process.ensures, ← c.before.to24.ensures, to_z-of_z w32 c.before.to24.result (record { sfits = c.before.to24.type-inv }), ← c.added.ensures))
 
 returns : tie.Need-returns invariant-loop decreases-loop
-unfolding voicesOf
+unfolding voices_of
 returns c = let e : c.before.loop.v ≡ 8 = omega arith in rw e at c.before.loop.invariant.1
 
 pub voices-spec : {M : Type 1} → statement M

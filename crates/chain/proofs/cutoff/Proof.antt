@@ -1,5 +1,5 @@
 -- `chain::cutoff` meets its contract: the calls' results put in. Assumes nothing.
-use Rattle.chain.specs.Chain.{cutoffOf}
+use Rattle.chain.specs.Chain.{cutoff_of}
 use borrow.Author.Rules.{rules}
 use Rattle.chain.proofs.cutoff.Statement.{statement}
 use Rattle.chain.proofs.cutoff.Tie as tie
@@ -14,7 +14,7 @@ clamp-requires : tie.Need-clamp-requires
 clamp-requires c κs = search rules
 
 returns : tie.Need-returns
-unfolding cutoffOf
+unfolding cutoff_of
 returns c = rw (← c.before.before.max.ensures, ← c.before.exp2.ensures.0, ← c.clamp.ensures)
 
 pub cutoff-spec : {M : Type 1} → statement M

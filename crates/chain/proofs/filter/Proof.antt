@@ -1,11 +1,11 @@
 -- `chain::filter` meets its contract: as it stands. Assumes nothing.
 use mathlib.Core.Path.{refl}
-use Rattle.chain.specs.Chain.{multimodeOf}
+use Rattle.chain.specs.Chain.{multimode_of}
 use Rattle.chain.proofs.filter.Statement.{statement}
 use Rattle.chain.proofs.filter.Tie as tie
 
 returns : tie.Need-returns
-unfolding multimodeOf
+unfolding multimode_of
 returns c = refl
 
 pub filter-spec : {M : Type 1} → statement M

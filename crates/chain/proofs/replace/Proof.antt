@@ -1,5 +1,5 @@
 -- `chain::replace` meets its contract: by its one test. Assumes nothing.
-use Rattle.chain.specs.Chain.{finiteOr}
+use Rattle.chain.specs.Chain.{finite_or}
 use borrow.Author.Rules.{rules}
 use Rattle.chain.proofs.replace.Statement.{statement}
 use Rattle.chain.proofs.replace.Tie as tie
@@ -8,11 +8,11 @@ is-finite-requires : tie.Need-is-finite-requires
 is-finite-requires c κs = search rules
 
 returns : tie.Need-returns
-unfolding finiteOr
+unfolding finite_or
 returns c = rw (← c.before.is_finite.ensures, c.if1.true)
 
 returns-2 : tie.Need-returns-2
-unfolding finiteOr
+unfolding finite_or
 returns-2 c = rw (← c.before.is_finite.ensures, c.if1.false)
 
 pub replace_spec : {M : Type 1} → statement M

@@ -1,5 +1,5 @@
 -- `chain::resonance` meets its contract: the call's result put in. Assumes nothing.
-use Rattle.chain.specs.Chain.{resOf}
+use Rattle.chain.specs.Chain.{res_of}
 use borrow.Author.Rules.{rules}
 use Rattle.chain.proofs.resonance.Statement.{statement}
 use Rattle.chain.proofs.resonance.Tie as tie
@@ -8,7 +8,7 @@ clamp-requires : tie.Need-clamp-requires
 clamp-requires c κs = search rules
 
 returns : tie.Need-returns
-unfolding resOf
+unfolding res_of
 returns c = rw (← c.clamp.ensures)
 
 pub resonance-spec : {M : Type 1} → statement M

@@ -1,5 +1,5 @@
 -- `chain::run_filter` meets its contract: the calls' results put in. Assumes nothing.
-use Rattle.chain.specs.Chain.{filterOf}
+use Rattle.chain.specs.Chain.{filter_of}
 use borrow.Author.Rules.{rules}
 use Rattle.chain.proofs.run_filter.Statement.{statement}
 use Rattle.chain.proofs.run_filter.Tie as tie
@@ -23,8 +23,8 @@ replace-requires : tie.Need-replace-requires
 replace-requires c κs = search rules
 
 returns : tie.Need-returns
-unfolding filterOf
-returns c = rw (← c.before.before.before.before.before.resonance.ensures, ← c.before.before.before.before.coefficients.ensures, ← c.before.before.before.filter.ensures, ← c.before.before.one-pole.ensures, ← c.before.pick.ensures, ← c.replace.ensures)
+unfolding filter_of
+returns c = rw (← c.before.before.before.before.before.resonance.ensures, ← c.before.before.before.before.coefficients.ensures, ← c.before.before.before.filter.ensures, ← c.before.before.one_pole.ensures, ← c.before.pick.ensures, ← c.replace.ensures)
 
 pub run-filter-spec : {M : Type 1} → statement M
 run-filter-spec =

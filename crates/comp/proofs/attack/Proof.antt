@@ -1,6 +1,6 @@
 -- `comp::attack` meets its contract: each arm is its entry's coefficient, and the last stands for all numbers from there on. Assumes nothing.
-use Rattle.lists.proofs.Missed.{missed-min}
-use Rattle.comp.specs.Tables.{attackOf, attacks}
+use Rattle.lists.proofs.Missed.{missed_min}
+use Rattle.comp.specs.Tables.{attack_of, attacks}
 use borrow.Author.Rules.{rules}
 use Rattle.comp.proofs.attack.Statement.{statement}
 use Rattle.comp.proofs.attack.Tie as tie
@@ -48,32 +48,32 @@ coef-requires-7 : tie.Need-coef-requires-7
 coef-requires-7 c κs = search rules
 
 returns : tie.Need-returns
-unfolding attackOf attacks
+unfolding attack_of attacks
 returns c = rw c.before.match.keys1 c.coef.ensures
 
 returns-2 : tie.Need-returns-2
-unfolding attackOf attacks
+unfolding attack_of attacks
 returns-2 c = rw c.before.match.keys2 c.coef2.ensures
 
 returns-3 : tie.Need-returns-3
-unfolding attackOf attacks
+unfolding attack_of attacks
 returns-3 c = rw c.before.match.keys3 c.coef3.ensures
 
 returns-4 : tie.Need-returns-4
-unfolding attackOf attacks
+unfolding attack_of attacks
 returns-4 c = rw c.before.match.keys4 c.coef4.ensures
 
 returns-5 : tie.Need-returns-5
-unfolding attackOf attacks
+unfolding attack_of attacks
 returns-5 c = rw c.before.match.keys5 c.coef5.ensures
 
 returns-6 : tie.Need-returns-6
-unfolding attackOf attacks
+unfolding attack_of attacks
 returns-6 c = rw c.before.match.keys6 c.coef6.ensures
 
 returns-7 : tie.Need-returns-7
-unfolding attackOf attacks
-returns-7 c = rw (missed-min 6 c.before.before.args.b c.before.match.rest) c.coef7.ensures
+unfolding attack_of attacks
+returns-7 c = rw (missed_min 6 c.before.before.args.b c.before.match.rest) c.coef7.ensures
 
 pub attack-spec : {M : Type 1} → statement M
 attack-spec =

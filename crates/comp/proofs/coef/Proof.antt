@@ -1,5 +1,5 @@
 -- `comp::coef` meets its contract: the calls' results put in. Assumes nothing.
-use Rattle.comp.specs.Comp.{coefOf}
+use Rattle.comp.specs.Comp.{coef_of}
 use borrow.Author.Rules.{rules}
 use Rattle.comp.proofs.coef.Statement.{statement}
 use Rattle.comp.proofs.coef.Tie as tie
@@ -11,7 +11,7 @@ exp-requires : tie.Need-exp-requires
 exp-requires c κs = search rules
 
 returns : tie.Need-returns
-unfolding coefOf
+unfolding coef_of
 returns c = rw (← c.before.max.ensures, ← c.exp.ensures.0)
 
 pub coef-spec : {M : Type 1} → statement M

@@ -1,5 +1,5 @@
 -- `comp::follow` meets its contract: the calls' results put in. Assumes nothing.
-use Rattle.comp.specs.Comp.{followOf}
+use Rattle.comp.specs.Comp.{follow_of}
 use borrow.Author.Rules.{rules}
 use Rattle.comp.proofs.follow.Statement.{statement}
 use Rattle.comp.proofs.follow.Tie as tie
@@ -8,7 +8,7 @@ smooth-requires : tie.Need-smooth-requires
 smooth-requires c κs = search rules
 
 returns : tie.Need-returns
-unfolding followOf
+unfolding follow_of
 returns c = rw (← c.smooth.ensures)
 
 pub follow-spec : {M : Type 1} → statement M

@@ -1,5 +1,5 @@
 -- `comp::gain` meets its contract: the calls' results put in. Assumes nothing.
-use Rattle.comp.specs.Comp.{gainOf}
+use Rattle.comp.specs.Comp.{gain_of}
 use borrow.Author.Rules.{rules}
 use Rattle.comp.proofs.gain.Statement.{statement}
 use Rattle.comp.proofs.gain.Tie as tie
@@ -14,7 +14,7 @@ db-requires-2 : tie.Need-db-requires-2
 db-requires-2 c κs = search rules
 
 returns : tie.Need-returns
-unfolding gainOf
+unfolding gain_of
 returns c = rw (← c.before.before.clamp.ensures, ← c.before.db.ensures, ← c.db2.ensures)
 
 pub gain-spec : {M : Type 1} → statement M

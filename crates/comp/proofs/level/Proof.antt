@@ -1,5 +1,5 @@
 -- `comp::level` meets its contract: the calls' results put in. Assumes nothing.
-use Rattle.comp.specs.Comp.{levelOf}
+use Rattle.comp.specs.Comp.{level_of}
 use borrow.Author.Rules.{rules}
 use Rattle.comp.proofs.level.Statement.{statement}
 use Rattle.comp.proofs.level.Tie as tie
@@ -11,7 +11,7 @@ log10-requires : tie.Need-log10-requires
 log10-requires c κs = search rules
 
 returns : tie.Need-returns
-unfolding levelOf
+unfolding level_of
 returns c = rw (← c.before.max.ensures, ← c.log10.ensures.0)
 
 pub level-spec : {M : Type 1} → statement M

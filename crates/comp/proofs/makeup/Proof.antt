@@ -1,5 +1,5 @@
 -- `comp::makeup` meets its contract: the calls' results put in. Assumes nothing.
-use Rattle.comp.specs.Comp.{makeupOf}
+use Rattle.comp.specs.Comp.{makeup_of}
 use borrow.Author.Rules.{rules}
 use Rattle.comp.proofs.makeup.Statement.{statement}
 use Rattle.comp.proofs.makeup.Tie as tie
@@ -11,7 +11,7 @@ mup-db-requires-2 : tie.Need-mup-db-requires-2
 mup-db-requires-2 c κs = search rules
 
 returns : tie.Need-returns
-unfolding makeupOf
+unfolding makeup_of
 returns c = rw (← c.before.mup-db.ensures, ← c.mup-db2.ensures)
 
 pub makeup-spec : {M : Type 1} → statement M

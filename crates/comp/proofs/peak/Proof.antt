@@ -1,5 +1,5 @@
 -- `comp::peak` meets its contract: the calls' results put in. Assumes nothing.
-use Rattle.comp.specs.Comp.{peakOf}
+use Rattle.comp.specs.Comp.{peak_of}
 use borrow.Author.Rules.{rules}
 use Rattle.comp.proofs.peak.Statement.{statement}
 use Rattle.comp.proofs.peak.Tie as tie
@@ -14,7 +14,7 @@ max-requires : tie.Need-max-requires
 max-requires c κs = search rules
 
 returns : tie.Need-returns
-unfolding peakOf
+unfolding peak_of
 returns c = rw (← c.before.before.abs.ensures, ← c.before.abs2.ensures, ← c.max.ensures)
 
 pub peak-spec : {M : Type 1} → statement M

@@ -1,5 +1,5 @@
 -- `comp::pole` meets its contract: the call's result put in. Assumes nothing.
-use Rattle.comp.specs.Comp.{poleOf}
+use Rattle.comp.specs.Comp.{pole_of}
 use borrow.Author.Rules.{rules}
 use Rattle.comp.proofs.pole.Statement.{statement}
 use Rattle.comp.proofs.pole.Tie as tie
@@ -8,7 +8,7 @@ exp-requires : tie.Need-exp-requires
 exp-requires c κs = search rules
 
 returns : tie.Need-returns
-unfolding poleOf
+unfolding pole_of
 returns c = rw (← c.exp.ensures.0)
 
 pub pole-spec : {M : Type 1} → statement M

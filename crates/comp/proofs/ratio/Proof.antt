@@ -1,6 +1,6 @@
 -- `comp::ratio` meets its contract: each arm is its entry of the table, and the last stands for all numbers from there on. Assumes nothing.
-use Rattle.lists.proofs.Missed.{missed-min}
-use Rattle.comp.specs.Tables.{ratioOf, ratios}
+use Rattle.lists.proofs.Missed.{missed_min}
+use Rattle.comp.specs.Tables.{ratio_of, ratios}
 use borrow.Author.Rules.{rules}
 use Rattle.comp.proofs.ratio.Statement.{statement}
 use Rattle.comp.proofs.ratio.Tie as tie
@@ -18,20 +18,20 @@ array-read-result-4 : tie.Need-array-read-result-4
 array-read-result-4 c = search rules
 
 returns : tie.Need-returns
-unfolding ratioOf ratios
+unfolding ratio_of ratios
 returns c = rw c.match.keys1
 
 returns-2 : tie.Need-returns-2
-unfolding ratioOf ratios
+unfolding ratio_of ratios
 returns-2 c = rw c.match.keys2
 
 returns-3 : tie.Need-returns-3
-unfolding ratioOf ratios
+unfolding ratio_of ratios
 returns-3 c = rw c.match.keys3
 
 returns-4 : tie.Need-returns-4
-unfolding ratioOf ratios
-returns-4 c = rw (missed-min 3 c.before.args.b c.match.rest)
+unfolding ratio_of ratios
+returns-4 c = rw (missed_min 3 c.before.args.b c.match.rest)
 
 pub ratio-spec : {M : Type 1} → statement M
 ratio-spec =

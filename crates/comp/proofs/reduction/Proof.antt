@@ -1,5 +1,5 @@
 -- `comp::reduction` meets its contract: the calls' results put in. Assumes nothing.
-use Rattle.comp.specs.Comp.{reductionOf}
+use Rattle.comp.specs.Comp.{reduction_of}
 use borrow.Author.Rules.{rules}
 use Rattle.comp.proofs.reduction.Statement.{statement}
 use Rattle.comp.proofs.reduction.Tie as tie
@@ -14,7 +14,7 @@ ratio-requires : tie.Need-ratio-requires
 ratio-requires c κs = search rules
 
 returns : tie.Need-returns
-unfolding reductionOf
+unfolding reduction_of
 returns c = rw (← c.before.before.level.ensures, ← c.before.soft.ensures, ← c.ratio.ensures)
 
 pub reduction-spec : {M : Type 1} → statement M

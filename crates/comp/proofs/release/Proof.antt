@@ -1,6 +1,6 @@
 -- `comp::release` meets its contract: each arm is its entry's coefficient, and the last stands for all numbers from there on. Assumes nothing.
-use Rattle.lists.proofs.Missed.{missed-min}
-use Rattle.comp.specs.Tables.{releaseOf, releases}
+use Rattle.lists.proofs.Missed.{missed_min}
+use Rattle.comp.specs.Tables.{release_of, releases}
 use borrow.Author.Rules.{rules}
 use Rattle.comp.proofs.release.Statement.{statement}
 use Rattle.comp.proofs.release.Tie as tie
@@ -54,36 +54,36 @@ coef-requires-8 : tie.Need-coef-requires-8
 coef-requires-8 c κs = search rules
 
 returns : tie.Need-returns
-unfolding releaseOf releases
+unfolding release_of releases
 returns c = rw c.before.match.keys1 c.coef.ensures
 
 returns-2 : tie.Need-returns-2
-unfolding releaseOf releases
+unfolding release_of releases
 returns-2 c = rw c.before.match.keys2 c.coef2.ensures
 
 returns-3 : tie.Need-returns-3
-unfolding releaseOf releases
+unfolding release_of releases
 returns-3 c = rw c.before.match.keys3 c.coef3.ensures
 
 returns-4 : tie.Need-returns-4
-unfolding releaseOf releases
+unfolding release_of releases
 returns-4 c = rw c.before.match.keys4 c.coef4.ensures
 
 returns-5 : tie.Need-returns-5
-unfolding releaseOf releases
+unfolding release_of releases
 returns-5 c = rw c.before.match.keys5 c.coef5.ensures
 
 returns-6 : tie.Need-returns-6
-unfolding releaseOf releases
+unfolding release_of releases
 returns-6 c = rw c.before.match.keys6 c.coef6.ensures
 
 returns-7 : tie.Need-returns-7
-unfolding releaseOf releases
+unfolding release_of releases
 returns-7 c = rw c.before.match.keys7 c.coef7.ensures
 
 returns-8 : tie.Need-returns-8
-unfolding releaseOf releases
-returns-8 c = rw (missed-min 7 c.before.before.args.b c.before.match.rest) c.coef8.ensures
+unfolding release_of releases
+returns-8 c = rw (missed_min 7 c.before.before.args.b c.before.match.rest) c.coef8.ensures
 
 pub release_spec : {M : Type 1} → statement M
 release_spec =

@@ -1,5 +1,5 @@
 -- `cym::coefficient` meets its contract: the calls' results put in. Assumes nothing.
-use Rattle.cym.specs.Cym.{coefficientOf}
+use Rattle.cym.specs.Cym.{coefficient_of}
 use borrow.Author.Rules.{rules}
 use Rattle.cym.proofs.coefficient.Statement.{statement}
 use Rattle.cym.proofs.coefficient.Tie as tie
@@ -14,7 +14,7 @@ sin-requires : tie.Need-sin-requires
 sin-requires c κs = search rules
 
 returns : tie.Need-returns
-unfolding coefficientOf
+unfolding coefficient_of
 returns c = rw (← c.before.before.choose.ensures, ← c.before.min.ensures, ← c.sin.ensures.0)
 
 pub coefficient-spec : {M : Type 1} → statement M

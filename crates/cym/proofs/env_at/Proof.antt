@@ -1,5 +1,5 @@
 -- `cym::env_at` meets its contract: the calls' results put in. Assumes nothing.
-use Rattle.cym.specs.Cym.{envAt}
+use Rattle.cym.specs.Cym.{env_at}
 use borrow.Author.Rules.{rules}
 use Rattle.cym.proofs.env_at.Statement.{statement}
 use Rattle.cym.proofs.env_at.Tie as tie
@@ -14,7 +14,7 @@ hit-requires : tie.Need-hit-requires
 hit-requires c κs = search rules
 
 returns : tie.Need-returns
-unfolding envAt
+unfolding env_at
 returns c = rw (← c.before.«record».ensures, ← c.hit.ensures)
 
 pub env-at-spec : {M : Type 1} → statement M

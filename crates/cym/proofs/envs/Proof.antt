@@ -4,20 +4,20 @@ use mathlib.Core.Path.{◌≡◌, refl}
 use native.Mathlib.Numerals.{add-one}
 use native.Mathlib.Omega.{arith}
 use lib.ListN.{get_or, set}
-use Rattle.lists.specs.Turns.{turnsOf}
-use Rattle.cym.specs.Cym.{no_env, envAt}
+use Rattle.lists.specs.Turns.{turns_of}
+use Rattle.cym.specs.Cym.{no_env, env_at}
 use borrow.Author.Rules.{rules}
 use Rattle.cym.proofs.envs.Statement.{statement}
 use Rattle.cym.proofs.envs.Tie as tie
 
 abbrev invariant-loop : tie.invariant-loop
-invariant-loop f mode a₀ r₀ a r = (r ≤ 8) × (a ≡ turnsOf r (λ i x. set x i (envAt f mode i (get_or x i no_env))) a₀)
+invariant-loop f mode a₀ r₀ a r = (r ≤ 8) × (a ≡ turns_of r (λ i x. set x i (env_at f mode i (get_or x i no_env))) a₀)
 
 abbrev decreases-loop : tie.decreases-loop
 decreases-loop f mode a₀ r₀ a r = 8 - r
 
 loop-holds : tie.Need-loop-init invariant-loop decreases-loop
-unfolding turnsOf
+unfolding turns_of
 loop-holds c = (search rules, refl)
 
 mul-e : tie.Need-overflow-mul-e invariant-loop decreases-loop
@@ -42,7 +42,7 @@ loop-less : tie.Need-loop-smaller invariant-loop decreases-loop
 loop-less c = search rules
 
 loop-again : tie.Need-loop-preserved invariant-loop decreases-loop
-unfolding turnsOf
+unfolding turns_of
 loop-again c = (omega arith, rw (add-one, ← c.before.before.before.loop.invariant.1, ← c.env-at.ensures))
 
 returns : tie.Need-returns invariant-loop decreases-loop

@@ -4,20 +4,20 @@ use mathlib.Core.Path.{◌≡◌, refl}
 use native.Mathlib.Numerals.{add-one}
 use native.Mathlib.Omega.{arith}
 use mathlib.Core.Bool.{◌||◌}
-use Rattle.lists.specs.Turns.{turnsOf}
-use Rattle.cym.specs.Cym.{hitAt, anyHit}
+use Rattle.lists.specs.Turns.{turns_of}
+use Rattle.cym.specs.Cym.{hit_at, any_hit}
 use borrow.Author.Rules.{rules}
 use Rattle.cym.proofs.hit.Statement.{statement}
 use Rattle.cym.proofs.hit.Tie as tie
 
 abbrev invariant-loop : tie.invariant-loop
-invariant-loop now was any₀ r₀ any r = (r ≤ 8) × (any ≡ turnsOf r (λ i x. x || hitAt now was i) any₀)
+invariant-loop now was any₀ r₀ any r = (r ≤ 8) × (any ≡ turns_of r (λ i x. x || hit_at now was i) any₀)
 
 abbrev decreases-loop : tie.decreases-loop
 decreases-loop now was any₀ r₀ any r = 8 - r
 
 loop-holds : tie.Need-loop-init invariant-loop decreases-loop
-unfolding turnsOf
+unfolding turns_of
 loop-holds c = (search rules, refl)
 
 array-read-any : tie.Need-array-read-any invariant-loop decreases-loop
@@ -33,11 +33,11 @@ loop-less : tie.Need-loop-smaller invariant-loop decreases-loop
 loop-less c = search rules
 
 loop-again : tie.Need-loop-preserved invariant-loop decreases-loop
-unfolding turnsOf
+unfolding turns_of
 loop-again c = (omega arith, rw (add-one, ← c.before.loop.invariant.1))
 
 returns : tie.Need-returns invariant-loop decreases-loop
-unfolding anyHit
+unfolding any_hit
 returns c = let e : c.before.loop.r ≡ 8 = omega arith in rw e at c.before.loop.invariant.1
 
 pub hit-spec : {M : Type 1} → statement M

@@ -1,5 +1,5 @@
 -- `cym::modes` meets its contract: the calls' results put in. Assumes nothing.
-use Rattle.cym.specs.Cym.{modesAt}
+use Rattle.cym.specs.Cym.{modes_at}
 use borrow.Author.Rules.{rules}
 use Rattle.cym.proofs.modes.Statement.{statement}
 use Rattle.cym.proofs.modes.Tie as tie
@@ -53,7 +53,7 @@ mode-of-requires-8 : tie.Need-mode-of-requires-8
 mode-of-requires-8 c κs = search rules
 
 returns : tie.Need-returns
-unfolding modesAt
+unfolding modes_at
 returns c = rw (← c.before.before.before.before.before.before.before.before.before.before.before.before.before.before.before.«record».ensures, ← c.before.before.before.before.before.before.before.before.before.before.before.before.before.before.Mode-of.ensures, ← c.before.before.before.before.before.before.before.before.before.before.before.before.before.record2.ensures, ← c.before.before.before.before.before.before.before.before.before.before.before.before.mode-of2.ensures, ← c.before.before.before.before.before.before.before.before.before.before.before.record3.ensures, ← c.before.before.before.before.before.before.before.before.before.before.mode-of3.ensures, ← c.before.before.before.before.before.before.before.before.before.record4.ensures, ← c.before.before.before.before.before.before.before.before.mode-of4.ensures, ← c.before.before.before.before.before.before.before.record5.ensures, ← c.before.before.before.before.before.before.mode-of5.ensures, ← c.before.before.before.before.before.record6.ensures, ← c.before.before.before.before.mode-of6.ensures, ← c.before.before.before.record7.ensures, ← c.before.before.mode-of7.ensures, ← c.before.record8.ensures, ← c.mode-of8.ensures)
 
 pub modes-spec : {M : Type 1} → statement M

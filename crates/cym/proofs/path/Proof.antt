@@ -1,5 +1,5 @@
 -- `cym::path` meets its contract: skipped, or filtered, by its one test. Assumes nothing.
-use Rattle.cym.specs.Cym.{pathOf}
+use Rattle.cym.specs.Cym.{path_of}
 use native.Mathlib.Omega.{arith}
 use borrow.Author.Rules.{rules}
 use Rattle.cym.proofs.Inside.{inside}
@@ -16,7 +16,7 @@ array-copy-out-e : tie.Need-array-copy-out-e
 array-copy-out-e c = let i = inside _ c.cym-path.ensures in omega arith
 
 returns : tie.Need-returns
-unfolding pathOf
+unfolding path_of
 returns c = rw (← c.before.before.cym-path.ensures, c.if1.true)
 
 choose-requires : tie.Need-choose-requires
@@ -47,7 +47,7 @@ max-requires : tie.Need-max-requires
 max-requires c κs = search rules
 
 returns-2 : tie.Need-returns-2
-unfolding pathOf
+unfolding path_of
 returns-2 c = rw (← c.before.before.before.before.before.before.before.before.before.before.before.cym-path.ensures, c.before.before.before.before.before.before.before.before.before.if1.false, ← c.before.before.before.before.before.before.before.choose.ensures, ← c.before.before.before.before.before.before.coefficient.ensures, ← c.before.before.before.before.tick.ensures, ← c.before.choose2.ensures, ← c.max.ensures)
 
 pub path-spec : {M : Type 1} → statement M

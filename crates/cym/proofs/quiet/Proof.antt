@@ -6,21 +6,21 @@ use native.Mathlib.Omega.{arith}
 use mathlib.Core.Bool.{◌&&◌}
 use lib.ListN.{get_or}
 use lib.Ieee.{le}
-use Rattle.float.specs.Consts.{kM127p5}
-use Rattle.lists.specs.Turns.{turnsOf}
-use Rattle.cym.specs.Cym.{no_env, quietOf}
+use Rattle.float.specs.Consts.{k_m127p5}
+use Rattle.lists.specs.Turns.{turns_of}
+use Rattle.cym.specs.Cym.{no_env, quiet_of}
 use borrow.Author.Rules.{rules}
 use Rattle.cym.proofs.quiet.Statement.{statement}
 use Rattle.cym.proofs.quiet.Tie as tie
 
 abbrev invariant-loop : tie.invariant-loop
-invariant-loop env all₀ r₀ all r = (r ≤ 8) × (all ≡ turnsOf r (λ i x. x && le (get_or env i no_env).level kM127p5) all₀)
+invariant-loop env all₀ r₀ all r = (r ≤ 8) × (all ≡ turns_of r (λ i x. x && le (get_or env i no_env).level k_m127p5) all₀)
 
 abbrev decreases-loop : tie.decreases-loop
 decreases-loop env all₀ r₀ all r = 8 - r
 
 loop-holds : tie.Need-loop-init invariant-loop decreases-loop
-unfolding turnsOf
+unfolding turns_of
 loop-holds c = (search rules, refl)
 
 mul-e : tie.Need-overflow-mul-e invariant-loop decreases-loop
@@ -36,11 +36,11 @@ loop-less : tie.Need-loop-smaller invariant-loop decreases-loop
 loop-less c = search rules
 
 loop-again : tie.Need-loop-preserved invariant-loop decreases-loop
-unfolding turnsOf
+unfolding turns_of
 loop-again c = (omega arith, rw (add-one, ← c.before.before.before.loop.invariant.1))
 
 returns : tie.Need-returns invariant-loop decreases-loop
-unfolding quietOf
+unfolding quiet_of
 returns c = let e : c.before.loop.r ≡ 8 = omega arith in rw e at c.before.loop.invariant.1
 
 pub quiet-spec : {M : Type 1} → statement M

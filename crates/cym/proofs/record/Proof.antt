@@ -1,5 +1,5 @@
 -- `cym::record` meets its contract: the call's result put in. Assumes nothing.
-use Rattle.cym.specs.Cym.{recordAt}
+use Rattle.cym.specs.Cym.{record_at}
 use borrow.Author.Rules.{rules}
 use Rattle.cym.proofs.record.Statement.{statement}
 use Rattle.cym.proofs.record.Tie as tie
@@ -14,7 +14,7 @@ bytes-requires : tie.Need-bytes-requires
 bytes-requires c κs = search rules
 
 returns : tie.Need-returns
-unfolding recordAt
+unfolding record_at
 returns c = rw (← c.bytes.ensures)
 
 pub record-spec : {M : Type 1} → statement M

@@ -1,6 +1,6 @@
 -- `dual::cv` meets its contract: every offset of the table lies within the frame. Assumes nothing.
 use native.Mathlib.Omega.{arith}
-use Rattle.dual.specs.Dual.{cvAt}
+use Rattle.dual.specs.Dual.{cv_at}
 use Rattle.dual.proofs.Inside.{inside}
 use borrow.Author.Rules.{rules}
 use Rattle.dual.proofs.cv.Statement.{statement}
@@ -19,7 +19,7 @@ word-requires : tie.Need-word-requires
 word-requires c κs = let i = inside _ c.before.dual-spec.ensures in omega arith
 
 returns : tie.Need-returns
-unfolding cvAt
+unfolding cv_at
 returns c = rw (← c.before.before.dual-spec.ensures, ← c.word.ensures)
 
 pub cv-spec : {M : Type 1} → statement M

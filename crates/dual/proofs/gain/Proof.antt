@@ -1,18 +1,18 @@
 -- `dual::gain` meets its contract: by its one test. Assumes nothing.
-use Rattle.dual.specs.Dual.{gainOf}
+use Rattle.dual.specs.Dual.{gain_of}
 use borrow.Author.Rules.{rules}
 use Rattle.dual.proofs.gain.Statement.{statement}
 use Rattle.dual.proofs.gain.Tie as tie
 
 returns : tie.Need-returns
-unfolding gainOf
+unfolding gain_of
 returns c = rw c.if1.true
 
 exp2-requires : tie.Need-exp2-requires
 exp2-requires c κs = search rules
 
 returns-2 : tie.Need-returns-2
-unfolding gainOf
+unfolding gain_of
 returns-2 c = rw (c.before.if1.false, ← c.exp2.ensures.0)
 
 pub gain-spec : {M : Type 1} → statement M

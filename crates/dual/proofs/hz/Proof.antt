@@ -1,5 +1,5 @@
 -- `dual::hz` meets its contract: the call's result put in. Assumes nothing.
-use Rattle.dual.specs.Dual.{hzOf}
+use Rattle.dual.specs.Dual.{hz_of}
 use borrow.Author.Rules.{rules}
 use Rattle.dual.proofs.hz.Statement.{statement}
 use Rattle.dual.proofs.hz.Tie as tie
@@ -11,7 +11,7 @@ int-to-float-result : tie.Need-int-to-float-result
 int-to-float-result c = search rules
 
 returns : tie.Need-returns
-unfolding hzOf
+unfolding hz_of
 returns c = rw (← c.before.max.ensures)
 
 pub hz-spec : {M : Type 1} → statement M

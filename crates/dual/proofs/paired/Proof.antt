@@ -1,5 +1,5 @@
 -- `dual::paired` meets its contract: the calls' results put in. Assumes nothing.
-use Rattle.dual.specs.Dual.{pairedOf}
+use Rattle.dual.specs.Dual.{paired_of}
 use borrow.Author.Rules.{rules}
 use Rattle.dual.proofs.paired.Statement.{statement}
 use Rattle.dual.proofs.paired.Tie as tie
@@ -23,7 +23,7 @@ sample-requires : tie.Need-sample-requires
 sample-requires c κs = search rules
 
 returns : tie.Need-returns
-unfolding pairedOf
+unfolding paired_of
 returns c = rw (← c.before.before.before.before.before.before.from-bits.ensures, ← c.before.before.before.before.before.word-level.ensures, ← c.before.before.before.before.word-level2.ensures, ← c.before.before.clamp.ensures, ← c.before.sample.ensures)
 
 pub paired-spec : {M : Type 1} → statement M

@@ -1,6 +1,6 @@
 -- `dual::record` meets its contract: every offset of the table lies within the frame. Assumes nothing.
 use native.Mathlib.Omega.{arith}
-use Rattle.dual.specs.Dual.{recordAt}
+use Rattle.dual.specs.Dual.{record_at}
 use Rattle.dual.proofs.Inside.{inside}
 use borrow.Author.Rules.{rules}
 use Rattle.dual.proofs.record.Statement.{statement}
@@ -19,7 +19,7 @@ bytes-requires : tie.Need-bytes-requires
 bytes-requires c κs = let i = inside _ c.before.dual-spec.ensures in omega arith
 
 returns : tie.Need-returns
-unfolding recordAt
+unfolding record_at
 returns c = rw (← c.before.before.dual-spec.ensures, ← c.bytes.ensures)
 
 pub record-spec : {M : Type 1} → statement M

@@ -1,6 +1,6 @@
 -- `dual::switch` meets its contract: every offset of the table lies within the frame. Assumes nothing.
 use native.Mathlib.Omega.{arith}
-use Rattle.dual.specs.Dual.{switchAt}
+use Rattle.dual.specs.Dual.{switch_at}
 use Rattle.dual.proofs.Inside.{inside}
 use borrow.Author.Rules.{rules}
 use Rattle.dual.proofs.switch.Statement.{statement}
@@ -19,7 +19,7 @@ bit-requires : tie.Need-bit-requires
 bit-requires c κs = let i = inside _ c.before.dual-spec.ensures in omega (arith, i.sw _ c.before.before.before.requires.1)
 
 returns : tie.Need-returns
-unfolding switchAt
+unfolding switch_at
 returns c = rw (← c.before.before.dual-spec.ensures, ← c.bit.ensures)
 
 pub switch-spec : {M : Type 1} → statement M

@@ -1,6 +1,6 @@
 -- `dual::word_level` meets its contract: as it stands. Assumes nothing.
 use mathlib.Core.Path.{refl}
-use Rattle.dual.specs.Dual.{wordLevel}
+use Rattle.dual.specs.Dual.{word_level}
 use borrow.Author.Rules.{rules}
 use Rattle.dual.proofs.word_level.Statement.{statement}
 use Rattle.dual.proofs.word_level.Tie as tie
@@ -9,7 +9,7 @@ int-to-float-result : tie.Need-int-to-float-result
 int-to-float-result c = search rules
 
 returns : tie.Need-returns
-unfolding wordLevel
+unfolding word_level
 returns c = refl
 
 pub word-level-spec : {M : Type 1} → statement M

@@ -6,7 +6,7 @@ use Prim.Native.Nat.{ℕ}
 use lib.Ieee.{Float}
 use borrow.Author.Rules.{rules}
 use borrow.Author.Tests.{ne_eqb}
-use Rattle.envelope.specs.Moves.{holdOf}
+use Rattle.envelope.specs.Moves.{hold_of}
 use Rattle.envelope.proofs.hold_of.Statement.{statement}
 use Rattle.envelope.proofs.hold_of.Tie as tie
 
@@ -14,23 +14,23 @@ abs-requires : tie.Need-abs-requires
 abs-requires c κs = search rules
 
 returns : tie.Need-returns
-unfolding holdOf
+unfolding hold_of
 returns c = simp (c.before.match.keys1, c.if1.true)
 
 returns-2 : tie.Need-returns-2
-unfolding holdOf
+unfolding hold_of
 returns-2 c = simp (c.abs.ensures, c.before.before.match.keys1, ne_eqb _ 0 c.before.if1.false)
 
 returns-3 : tie.Need-returns-3
-unfolding holdOf
+unfolding hold_of
 returns-3 c = simp (c.before.match.keys2, c.if2.true)
 
 returns-4 : tie.Need-returns-4
-unfolding holdOf
+unfolding hold_of
 returns-4 c = simp (c.before.match.keys2, ne_eqb _ 0 c.if2.false)
 
-released : (mode rate : ℕ) (d : Float) (was : Bool) → (mode ≡ 9) ⊎ (mode ≡ 11) ⊎ (mode ≡ 15) → false ≡ holdOf mode rate d was
-unfolding holdOf
+released : (mode rate : ℕ) (d : Float) (was : Bool) → (mode ≡ 9) ⊎ (mode ≡ 11) ⊎ (mode ≡ 15) → false ≡ hold_of mode rate d was
+unfolding hold_of
 released mode rate d was (inl e) = simp e
 released mode rate d was (inr (inl e)) = simp e
 released mode rate d was (inr (inr e)) = simp e
@@ -39,7 +39,7 @@ returns-5 : tie.Need-returns-5
 returns-5 c = released c.before.args.mode c.before.args.rate c.before.args.d c.before.args.was c.match.keys3
 
 returns-6 : tie.Need-returns-6
-unfolding holdOf
+unfolding hold_of
 returns-6 c =
     let r = c.match.rest in
     simp (ne_eqb _ 3 r.0.0.1, ne_eqb _ 0 r.0.1, ne_eqb _ 9 (λ e. r.1 (inl e)), ne_eqb _ 11 (λ e. r.1 (inr (inl e))), ne_eqb _ 15 (λ e. r.1 (inr (inr e))))

@@ -10,7 +10,7 @@ use mir.Val.{SFits, to_z, of_z}
 use mir.Facts.{to_z-of_z, to_z_pos}
 use borrow.Author.Rules.{rules, sfits_of}
 use borrow.Author.Tests.{lt-ltb, le-ltb}
-use Rattle.envelope.specs.Record.{levelOf}
+use Rattle.envelope.specs.Record.{level_of}
 use Rattle.envelope.proofs.level.Statement.{statement}
 use Rattle.envelope.proofs.level.Tie as tie
 
@@ -52,14 +52,14 @@ int-to-float-result-2 : tie.Need-int-to-float-result-2
 int-to-float-result-2 c = search rules
 
 returns : tie.Need-returns
-unfolding levelOf
+unfolding level_of
 returns c =
     let b = c.before.before.args.b in
     ap (λ (z : ℤ). of_int binary32 z) (to_z_pos w8 {n = b} c.before.if1.true)
     ∙ sym (ap (λ (t : Bool). cond t (of_int binary32 (pos b)) (of_int binary32 (negsuc (255 - b)))) (lt-ltb b 128 c.before.if1.true))
 
 returns-2 : tie.Need-returns-2
-unfolding levelOf
+unfolding level_of
 returns-2 c =
     let b = c.before.before.args.b in
     let h : b < 256 = c.before.before.ranges.b.fits in

@@ -3,15 +3,15 @@ use mathlib.Core.Path.{◌≡◌, refl}
 use Prim.Native.Nat.{◌+◌, ◌-◌, ◌*◌, ◌/◌, ◌%◌, ◌^◌, ◌<◌}
 use native.Mathlib.Omega.{arith}
 use lib.Count.{count_leading_zeros}
-use Rattle.fixed.specs.Fixed.{packOf}
-use Rattle.fixed.proofs.Fields.{bits-no-nan}
-use Rattle.fixed.proofs.Packs.{z-lt, shl_is, packed, bits-lt}
+use Rattle.fixed.specs.Fixed.{pack_of}
+use Rattle.fixed.proofs.Fields.{bits_no_nan}
+use Rattle.fixed.proofs.Packs.{z_lt, shl_is, packed, bits_lt}
 use borrow.Author.Rules.{rules}
 use Rattle.fixed.proofs.pack.Statement.{statement}
 use Rattle.fixed.proofs.pack.Tie as tie
 
 fewer : (c : tie.Start) → count_leading_zeros 64 c.args.q < 64
-fewer c = z-lt c.args.q c.args.k (omega arith) c.requires.0 c.requires.1
+fewer c = z_lt c.args.q c.args.k (omega arith) c.requires.0 c.requires.1
 
 kept : (c : tie.Start) → c.args.q * 2 ^ count_leading_zeros 64 c.args.q % 18446744073709551616 ≡ c.args.q * 2 ^ count_leading_zeros 64 c.args.q
 kept c = shl_is c.args.q c.args.k (omega arith) c.requires.0 c.requires.1
@@ -41,10 +41,10 @@ cast-result : tie.Need-overflow-cast-result
 cast-result c = search rules
 
 float-from-bits-result : tie.Need-float-from-bits-result
-float-from-bits-result c = rw (kept c) (bits-no-nan ((189 - count_leading_zeros 64 c.args.q - c.args.k) * 8388608 + (c.args.q * 2 ^ count_leading_zeros 64 c.args.q / 549755813888 + 1) / 2) (bits-lt c.args.q c.args.k (omega arith) c.requires.0 c.requires.1))
+float-from-bits-result c = rw (kept c) (bits_no_nan ((189 - count_leading_zeros 64 c.args.q - c.args.k) * 8388608 + (c.args.q * 2 ^ count_leading_zeros 64 c.args.q / 549755813888 + 1) / 2) (bits_lt c.args.q c.args.k (omega arith) c.requires.0 c.requires.1))
 
 returns : tie.Need-returns
-unfolding packOf
+unfolding pack_of
 returns c = rw (kept c) (refl, packed c.args.q c.args.k (omega arith) c.requires.0 c.requires.1)
 
 pub pack-spec : {M : Type 1} → statement M

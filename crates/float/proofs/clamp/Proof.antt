@@ -1,17 +1,17 @@
-use Rattle.float.specs.Floats.{clampOf}
+use Rattle.float.specs.Floats.{clamp_of}
 use Rattle.float.proofs.clamp.Statement.{statement}
 use Rattle.float.proofs.clamp.Tie as tie
 
 returns : tie.Need-returns
-unfolding clampOf
+unfolding clamp_of
 returns c = simp c.if1.true
 
 returns-2 : tie.Need-returns-2
-unfolding clampOf
+unfolding clamp_of
 returns-2 c = simp (c.if2.true, c.before.if1.false)
 
 returns-3 : tie.Need-returns-3
-unfolding clampOf
+unfolding clamp_of
 returns-3 c = simp (c.if2.false, c.before.if1.false)
 
 pub clamp_spec : {M : Type 1} → statement M

@@ -2,12 +2,12 @@
 use Rattle.std.proofs.Common.{ap, ◌∙◌, w32, rules}
 use lib.Ieee.{binary32, of_int}
 use mir.ValLaws.{to_z-of_z}
-use Rattle.float.proofs.Cast.{in-float}
+use Rattle.float.proofs.Cast.{in_float_lem}
 use Rattle.float.proofs.from_i32.Statement.{statement}
 use Rattle.float.proofs.from_i32.Tie as tie
 
 int-to-float-result : tie.Need-int-to-float-result
-int-to-float-result c = in-float _ c.before.if1.true
+int-to-float-result c = in_float_lem _ c.before.if1.true
 
 returns : tie.Need-returns
 returns c = ap (of_int binary32) (to_z-of_z w32 c.before.before.args.n c.before.before.ranges.n)

@@ -2,7 +2,7 @@
 use Rattle.std.proofs.Common.{◌≡◌, true, false, pos, refl, ap}
 use lib.Ieee.{Float, nan, inf, fin, binary32, add, sub, neg, eq, of_bits}
 use lib.Ieee.Scale.{finite}
-use Rattle.float.proofs.Remainder.{less-itself}
+use Rattle.float.proofs.Remainder.{less_itself}
 use Rattle.float.proofs.is_finite.Statement.{statement}
 use Rattle.float.proofs.is_finite.Tie as tie
 
@@ -11,7 +11,7 @@ unfolding sub add neg eq
 by_difference nan = refl
 by_difference (inf true) = refl
 by_difference (inf false) = refl
-by_difference (fin s m e) = ap (λ (z : Float). eq z (fin false 0 (pos 0))) (less-itself s m e)
+by_difference (fin s m e) = ap (λ (z : Float). eq z (fin false 0 (pos 0))) (less_itself s m e)
 
 returns : tie.Need-returns
 unfolding of_bits

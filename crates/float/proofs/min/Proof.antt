@@ -1,17 +1,17 @@
-use Rattle.float.specs.Floats.{minOf}
+use Rattle.float.specs.Floats.{min_of}
 use Rattle.float.proofs.min.Statement.{statement}
 use Rattle.float.proofs.min.Tie as tie
 
 returns : tie.Need-returns
-unfolding minOf
+unfolding min_of
 returns c = simp c.if1.true
 
 returns-2 : tie.Need-returns-2
-unfolding minOf
+unfolding min_of
 returns-2 c = simp (c.if2.true, c.before.if1.false)
 
 returns-3 : tie.Need-returns-3
-unfolding minOf
+unfolding min_of
 returns-3 c = simp (c.if2.false, c.before.if1.false)
 
 pub min-spec : {M : Type 1} → statement M

@@ -1,6 +1,6 @@
 -- `frame::cym_path` meets its contract: each arm is its entry of the table, and the last stands for all numbers from there on. Assumes nothing.
-use Rattle.lists.proofs.Missed.{missed-min}
-use Rattle.frame.specs.Offsets.{cymPath, cymPaths}
+use Rattle.lists.proofs.Missed.{missed_min}
+use Rattle.frame.specs.Offsets.{cym_path, cym_paths}
 use borrow.Author.Rules.{rules}
 use Rattle.frame.proofs.cym_path.Statement.{statement}
 use Rattle.frame.proofs.cym_path.Tie as tie
@@ -21,24 +21,24 @@ array-copy-out-result-5 : tie.Need-array-copy-out-result-5
 array-copy-out-result-5 c = search rules
 
 returns : tie.Need-returns
-unfolding cymPath cymPaths
+unfolding cym_path cym_paths
 returns c = rw c.before.match.keys1
 
 returns-2 : tie.Need-returns-2
-unfolding cymPath cymPaths
+unfolding cym_path cym_paths
 returns-2 c = rw c.before.match.keys2
 
 returns-3 : tie.Need-returns-3
-unfolding cymPath cymPaths
+unfolding cym_path cym_paths
 returns-3 c = rw c.before.match.keys3
 
 returns-4 : tie.Need-returns-4
-unfolding cymPath cymPaths
+unfolding cym_path cym_paths
 returns-4 c = rw c.before.match.keys4
 
 returns-5 : tie.Need-returns-5
-unfolding cymPath cymPaths
-returns-5 c = rw (missed-min 4 c.before.before.args.p c.before.match.rest)
+unfolding cym_path cym_paths
+returns-5 c = rw (missed_min 4 c.before.before.args.p c.before.match.rest)
 
 pub cym-path-spec : {M : Type 1} → statement M
 cym-path-spec =

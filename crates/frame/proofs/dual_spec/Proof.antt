@@ -1,6 +1,6 @@
 -- `frame::dual_spec` meets its contract: each arm is its entry of the table, and the last stands for all numbers from there on. Assumes nothing.
-use Rattle.lists.proofs.Missed.{missed-min}
-use Rattle.frame.specs.Offsets.{dualSpec, duals}
+use Rattle.lists.proofs.Missed.{missed_min}
+use Rattle.frame.specs.Offsets.{dual_spec, duals}
 use borrow.Author.Rules.{rules}
 use Rattle.frame.proofs.dual_spec.Statement.{statement}
 use Rattle.frame.proofs.dual_spec.Tie as tie
@@ -15,16 +15,16 @@ array-copy-out-result-3 : tie.Need-array-copy-out-result-3
 array-copy-out-result-3 c = search rules
 
 returns : tie.Need-returns
-unfolding dualSpec duals
+unfolding dual_spec duals
 returns c = rw c.before.match.keys1
 
 returns-2 : tie.Need-returns-2
-unfolding dualSpec duals
+unfolding dual_spec duals
 returns-2 c = rw c.before.match.keys2
 
 returns-3 : tie.Need-returns-3
-unfolding dualSpec duals
-returns-3 c = rw (missed-min 2 c.before.before.args.d c.before.match.rest)
+unfolding dual_spec duals
+returns-3 c = rw (missed_min 2 c.before.before.args.d c.before.match.rest)
 
 pub dual-spec-spec : {M : Type 1} → statement M
 dual-spec-spec =

@@ -1,6 +1,6 @@
 -- `frame::route_bit` meets its contract: each arm is its entry of the table, and the last stands for all numbers from there on. Assumes nothing.
-use Rattle.lists.proofs.Missed.{missed-min}
-use Rattle.frame.specs.Offsets.{routeBit, routeBits}
+use Rattle.lists.proofs.Missed.{missed_min}
+use Rattle.frame.specs.Offsets.{route_bit, route_bits}
 use borrow.Author.Rules.{rules}
 use Rattle.frame.proofs.route_bit.Statement.{statement}
 use Rattle.frame.proofs.route_bit.Tie as tie
@@ -30,36 +30,36 @@ array-read-result-8 : tie.Need-array-read-result-8
 array-read-result-8 c = search rules
 
 returns : tie.Need-returns
-unfolding routeBit routeBits
+unfolding route_bit route_bits
 returns c = rw c.match.keys1
 
 returns-2 : tie.Need-returns-2
-unfolding routeBit routeBits
+unfolding route_bit route_bits
 returns-2 c = rw c.match.keys2
 
 returns-3 : tie.Need-returns-3
-unfolding routeBit routeBits
+unfolding route_bit route_bits
 returns-3 c = rw c.match.keys3
 
 returns-4 : tie.Need-returns-4
-unfolding routeBit routeBits
+unfolding route_bit route_bits
 returns-4 c = rw c.match.keys4
 
 returns-5 : tie.Need-returns-5
-unfolding routeBit routeBits
+unfolding route_bit route_bits
 returns-5 c = rw c.match.keys5
 
 returns-6 : tie.Need-returns-6
-unfolding routeBit routeBits
+unfolding route_bit route_bits
 returns-6 c = rw c.match.keys6
 
 returns-7 : tie.Need-returns-7
-unfolding routeBit routeBits
+unfolding route_bit route_bits
 returns-7 c = rw c.match.keys7
 
 returns-8 : tie.Need-returns-8
-unfolding routeBit routeBits
-returns-8 c = rw (missed-min 7 c.before.args.v c.match.rest)
+unfolding route_bit route_bits
+returns-8 c = rw (missed_min 7 c.before.args.v c.match.rest)
 
 pub route-bit-spec : {M : Type 1} → statement M
 route-bit-spec =

@@ -1,7 +1,7 @@
 -- `frame::routed_off` meets its contract: one bit of the mask, at a place below 8. Assumes nothing.
 use lib.Bits.{and_mask}
-use Rattle.frame.specs.Frame.{routedOff}
-use Rattle.frame.proofs.Tables.{route-inside}
+use Rattle.frame.specs.Frame.{routed_off}
+use Rattle.frame.proofs.Tables.{route_inside}
 use borrow.Author.Rules.{rules}
 use Rattle.frame.proofs.routed_off.Statement.{statement}
 use Rattle.frame.proofs.routed_off.Tie as tie
@@ -13,10 +13,10 @@ shared-slice-read-result : tie.Need-shared-slice-read-result
 shared-slice-read-result c = search rules
 
 shr-result : tie.Need-overflow-shr-result
-shr-result c = rw c.before.route-bit.ensures (route-inside c.before.before.before.args.v)
+shr-result c = rw c.before.route-bit.ensures (route_inside c.before.before.before.args.v)
 
 returns : tie.Need-returns
-unfolding routedOff
+unfolding routed_off
 returns c = rw (and_mask _ 1, c.before.route-bit.ensures)
 
 pub routed-off-spec : {M : Type 1} → statement M

@@ -1,6 +1,6 @@
 -- `frame::tom_spec` meets its contract: each arm is its entry of the table, and the last stands for all numbers from there on. Assumes nothing.
-use Rattle.lists.proofs.Missed.{missed-min}
-use Rattle.frame.specs.Offsets.{tomSpec, toms}
+use Rattle.lists.proofs.Missed.{missed_min}
+use Rattle.frame.specs.Offsets.{tom_spec, toms}
 use borrow.Author.Rules.{rules}
 use Rattle.frame.proofs.tom_spec.Statement.{statement}
 use Rattle.frame.proofs.tom_spec.Tie as tie
@@ -15,16 +15,16 @@ array-copy-out-result-3 : tie.Need-array-copy-out-result-3
 array-copy-out-result-3 c = search rules
 
 returns : tie.Need-returns
-unfolding tomSpec toms
+unfolding tom_spec toms
 returns c = rw c.before.match.keys1
 
 returns-2 : tie.Need-returns-2
-unfolding tomSpec toms
+unfolding tom_spec toms
 returns-2 c = rw c.before.match.keys2
 
 returns-3 : tie.Need-returns-3
-unfolding tomSpec toms
-returns-3 c = rw (missed-min 2 c.before.before.args.t c.before.match.rest)
+unfolding tom_spec toms
+returns-3 c = rw (missed_min 2 c.before.before.args.t c.before.match.rest)
 
 pub tom-spec-spec : {M : Type 1} → statement M
 tom-spec-spec =

@@ -1,5 +1,5 @@
 -- `hat::colour` meets its contract: the calls' results put in. Assumes nothing.
-use Rattle.hat.specs.Hat.{colourOf}
+use Rattle.hat.specs.Hat.{colour_of}
 use borrow.Author.Rules.{rules}
 use Rattle.hat.proofs.colour.Statement.{statement}
 use Rattle.hat.proofs.colour.Tie as tie
@@ -17,7 +17,7 @@ sin-requires : tie.Need-sin-requires
 sin-requires c κs = search rules
 
 returns : tie.Need-returns
-unfolding colourOf
+unfolding colour_of
 returns c = rw (← c.before.before.before.signed-f32.ensures, ← c.before.before.exp2.ensures.0, ← c.before.clamp.ensures, ← c.sin.ensures.0)
 
 pub colour-spec : {M : Type 1} → statement M

@@ -1,4 +1,4 @@
--- `log10::log10` meets its contract: each answer is its definition's, whose distance is `log10-near`. Assumes nothing.
+-- `log10::log10` meets its contract: each answer is its definition's, whose distance is `log10_near`. Assumes nothing.
 use mathlib.Core.Path.{◌≡◌, sym, ◌∙◌, subst}
 use mathlib.Core.Bool.{false, not}
 use Prim.Native.Nat.{◌/◌, ◌%◌}
@@ -7,10 +7,10 @@ use lib.Dec.{T}
 use lib.Ieee.{Float, inf, binary32, le, fits, of_bits, to_bits, div}
 use lib.Ieee.Scale.{finite}
 use Rattle.fixed.proofs.Order.{on, off, le_right}
-use Rattle.log10.specs.Log10.{least, placeLog, log10Of}
+use Rattle.log10.specs.Log10.{least, place_log, log10_of}
 use Rattle.log10.specs.Near.{Log10Near}
 use Rattle.log10.proofs.Fields.{Told, told}
-use Rattle.log10.proofs.Distance.{log10-near, at-infinity, is_finite, log10-middle}
+use Rattle.log10.proofs.Distance.{log10_near, at_infinity, is_finite, log10_middle}
 use borrow.Author.Rules.{rules}
 use Rattle.log10.proofs.log10.Statement.{statement}
 use Rattle.log10.proofs.log10.Tie as tie
@@ -19,8 +19,8 @@ use Rattle.log10.proofs.log10.Tie as tie
 held : (c : tie.Start) → T (fits binary32 c.args.x)
 held c = subst T (sym c.well-formed.0.1) tt
 
-both : (c : tie.Start) (r : Float) → r ≡ log10Of c.args.x → (r ≡ log10Of c.args.x) × Log10Near c.args.x r
-both c r e = (e, subst (Log10Near c.args.x) (sym e) (log10-near c.args.x (held c)))
+both : (c : tie.Start) (r : Float) → r ≡ log10_of c.args.x → (r ≡ log10_of c.args.x) × Log10Near c.args.x r
+both c r e = (e, subst (Log10Near c.args.x) (sym e) (log10_near c.args.x (held c)))
 
 from : (c : tie.Then1) → T (le least c.before.args.x)
 unfolding of_bits
@@ -40,8 +40,8 @@ returns : tie.Need-returns
 unfolding of_bits div
 returns c =
     let x = c.before.before.args.x in
-    let e = at-infinity x (on c.if2.true) in
-    both c.before.before x (e ∙ sym ((log10-near x (held c.before.before)).infinite e))
+    let e = at_infinity x (on c.if2.true) in
+    both c.before.before x (e ∙ sym ((log10_near x (held c.before.before)).infinite e))
 
 float-to-bits-b : tie.Need-float-to-bits-b
 float-to-bits-b c = le_right least c.before.before.args.x (from c.before)
@@ -65,15 +65,15 @@ tenth-requires : tie.Need-tenth-requires
 tenth-requires c κs = omega (arith, (fields c.before).high)
 
 returns-2 : tie.Need-returns-2
-unfolding placeLog
+unfolding place_log
 returns-2 c =
     let s = c.before.before in
     let x = s.before.before.args.x in
-    both s.before.before c.tenth.result (c.tenth.ensures ∙ rw c.before.part.ensures.0 (sym (log10-middle x (from s.before) (number s))))
+    both s.before.before c.tenth.result (c.tenth.ensures ∙ rw c.before.part.ensures.0 (sym (log10_middle x (from s.before) (number s))))
 
 returns-3 : tie.Need-returns-3
 unfolding of_bits div
-returns-3 c = both c.before _ (sym ((log10-near c.before.args.x (held c.before)).elsewhere (off c.if1.false)))
+returns-3 c = both c.before _ (sym ((log10_near c.before.args.x (held c.before)).elsewhere (off c.if1.false)))
 
 pub log10-spec : {M : Type 1} → statement M
 log10-spec =

@@ -3,7 +3,7 @@ use mathlib.Core.Path.{refl}
 use native.Mathlib.Nat.{le_trans}
 use native.Mathlib.Omega.{arith}
 use Rattle.log10.specs.Log10.{rest_of}
-use Rattle.log10.proofs.Method.{r_small, rr, s-r, sr, s-small, rest_le}
+use Rattle.log10.proofs.Method.{r_small, rr, s_r, sr, s_small, rest_le}
 use borrow.Author.Rules.{rules}
 use Rattle.log10.proofs.rest.Statement.{statement}
 use Rattle.log10.proofs.rest.Tie as tie
@@ -21,13 +21,13 @@ mul-s : tie.Need-overflow-mul-s
 mul-s c = omega (arith, rr c.args.t c.requires, r_small c.args.t c.requires)
 
 sub-result : tie.Need-overflow-sub-result
-sub-result c = omega (arith, s-r c.args.t c.requires)
+sub-result c = omega (arith, s_r c.args.t c.requires)
 
 mul-result : tie.Need-overflow-mul-result
-mul-result c = omega (arith, sr c.args.t c.requires, s-small c.args.t c.requires)
+mul-result c = omega (arith, sr c.args.t c.requires, s_small c.args.t c.requires)
 
 add-result : tie.Need-overflow-add-result
-add-result c = omega (arith, sr c.args.t c.requires, s-small c.args.t c.requires, r_small c.args.t c.requires)
+add-result c = omega (arith, sr c.args.t c.requires, s_small c.args.t c.requires, r_small c.args.t c.requires)
 
 returns : tie.Need-returns
 unfolding rest_of

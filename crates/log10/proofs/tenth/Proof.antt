@@ -4,7 +4,7 @@ use lib.Dec.{leb, le→leb}
 use lib.Arith.{lt→nleb}
 use lib.Ieee.{neg}
 use lib.Ieee.Bits.{is_true, is_false}
-use Rattle.log10.specs.Log10.{tenthOf}
+use Rattle.log10.specs.Log10.{tenth_of}
 use borrow.Author.Rules.{rules}
 use Rattle.log10.proofs.tenth.Statement.{statement}
 use Rattle.log10.proofs.tenth.Tie as tie
@@ -16,7 +16,7 @@ pack-zero-requires : tie.Need-pack-zero-requires
 pack-zero-requires c κs = search rules
 
 returns : tie.Need-returns
-unfolding tenthOf
+unfolding tenth_of
 returns c =
     let s = c.before.before in
     let w = s.before.args.w in
@@ -32,7 +32,7 @@ pack-zero-requires-2 : tie.Need-pack-zero-requires-2
 pack-zero-requires-2 c κs = search rules
 
 returns-2 : tie.Need-returns-2
-unfolding tenthOf
+unfolding tenth_of
 returns-2 c =
     let s = c.before.before in
     let w = s.before.args.w in

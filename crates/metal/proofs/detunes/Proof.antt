@@ -3,20 +3,20 @@ use Prim.Native.Nat.{◌≤◌, ◌-◌}
 use mathlib.Core.Path.{◌≡◌, refl}
 use native.Mathlib.Numerals.{add-one}
 use native.Mathlib.Omega.{arith}
-use Rattle.lists.specs.Turns.{turnsOf}
-use Rattle.metal.specs.Metal.{drawDetune}
+use Rattle.lists.specs.Turns.{turns_of}
+use Rattle.metal.specs.Metal.{draw_detune}
 use borrow.Author.Rules.{rules}
 use Rattle.metal.proofs.detunes.Statement.{statement}
 use Rattle.metal.proofs.detunes.Tie as tie
 
 abbrev invariant-loop : tie.invariant-loop
-invariant-loop s₀ k₀ s k = (k ≤ 6) × (s ≡ turnsOf k drawDetune s₀)
+invariant-loop s₀ k₀ s k = (k ≤ 6) × (s ≡ turns_of k draw_detune s₀)
 
 abbrev decreases-loop : tie.decreases-loop
 decreases-loop s₀ k₀ s k = 6 - k
 
 loop-holds : tie.Need-loop-init invariant-loop decreases-loop
-unfolding turnsOf
+unfolding turns_of
 loop-holds c = (search rules, refl)
 
 draw-detune-requires : tie.Need-draw-detune-requires invariant-loop decreases-loop
@@ -29,7 +29,7 @@ loop-less : tie.Need-loop-smaller invariant-loop decreases-loop
 loop-less c = search rules
 
 loop-again : tie.Need-loop-preserved invariant-loop decreases-loop
-unfolding turnsOf
+unfolding turns_of
 loop-again c = (omega arith, rw (add-one, ← c.before.before.loop.invariant.1, ← c.draw-detune.ensures))
 
 returns : tie.Need-returns invariant-loop decreases-loop

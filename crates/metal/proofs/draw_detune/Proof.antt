@@ -1,5 +1,5 @@
 -- `metal::draw_detune` meets its contract: the call's result put in. Assumes nothing.
-use Rattle.metal.specs.Metal.{drawDetune}
+use Rattle.metal.specs.Metal.{draw_detune}
 use borrow.Author.Rules.{rules}
 use Rattle.metal.proofs.draw_detune.Statement.{statement}
 use Rattle.metal.proofs.draw_detune.Tie as tie
@@ -14,7 +14,7 @@ element-write-next : tie.Need-element-write-next
 element-write-next c = search rules
 
 returns : tie.Need-returns
-unfolding drawDetune
+unfolding draw_detune
 returns c = rw (← c.before.detune.ensures)
 
 pub draw-detune-spec : {M : Type 1} → statement M

@@ -1,5 +1,5 @@
 -- `metal::draw_phase` meets its contract: the call's result put in. Assumes nothing.
-use Rattle.metal.specs.Metal.{drawPhase}
+use Rattle.metal.specs.Metal.{draw_phase}
 use borrow.Author.Rules.{rules}
 use Rattle.metal.proofs.draw_phase.Statement.{statement}
 use Rattle.metal.proofs.draw_phase.Tie as tie
@@ -14,7 +14,7 @@ element-write-next : tie.Need-element-write-next
 element-write-next c = search rules
 
 returns : tie.Need-returns
-unfolding drawPhase
+unfolding draw_phase
 returns c = rw (← c.before.phase.ensures)
 
 pub draw-phase-spec : {M : Type 1} → statement M

@@ -3,20 +3,20 @@ use Prim.Native.Nat.{◌≤◌, ◌-◌}
 use mathlib.Core.Path.{◌≡◌, refl}
 use native.Mathlib.Numerals.{add-one}
 use native.Mathlib.Omega.{arith}
-use Rattle.lists.specs.Turns.{turnsOf}
-use Rattle.metal.specs.Metal.{drawPhase}
+use Rattle.lists.specs.Turns.{turns_of}
+use Rattle.metal.specs.Metal.{draw_phase}
 use borrow.Author.Rules.{rules}
 use Rattle.metal.proofs.phases.Statement.{statement}
 use Rattle.metal.proofs.phases.Tie as tie
 
 abbrev invariant-loop : tie.invariant-loop
-invariant-loop s₀ k₀ s k = (k ≤ 6) × (s ≡ turnsOf k drawPhase s₀)
+invariant-loop s₀ k₀ s k = (k ≤ 6) × (s ≡ turns_of k draw_phase s₀)
 
 abbrev decreases-loop : tie.decreases-loop
 decreases-loop s₀ k₀ s k = 6 - k
 
 loop-holds : tie.Need-loop-init invariant-loop decreases-loop
-unfolding turnsOf
+unfolding turns_of
 loop-holds c = (search rules, refl)
 
 draw-phase-requires : tie.Need-draw-phase-requires invariant-loop decreases-loop
@@ -29,7 +29,7 @@ loop-less : tie.Need-loop-smaller invariant-loop decreases-loop
 loop-less c = search rules
 
 loop-again : tie.Need-loop-preserved invariant-loop decreases-loop
-unfolding turnsOf
+unfolding turns_of
 loop-again c = (omega arith, rw (add-one, ← c.before.before.loop.invariant.1, ← c.draw-phase.ensures))
 
 returns : tie.Need-returns invariant-loop decreases-loop

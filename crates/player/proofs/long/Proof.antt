@@ -1,5 +1,5 @@
 -- `player::long` meets its contract: the opening is tested. Assumes nothing.
-use Rattle.player.specs.Text.{longOf}
+use Rattle.player.specs.Text.{long_of}
 use borrow.Author.Rules.{rules}
 use Rattle.player.proofs.long.Statement.{statement}
 use Rattle.player.proofs.long.Tie as tie
@@ -8,11 +8,11 @@ opening-ok-requires : tie.Need-opening-ok-requires
 opening-ok-requires c κs = search rules
 
 returns : tie.Need-returns
-unfolding longOf
+unfolding long_of
 returns c = rw (← c.before.opening-ok.ensures, c.if1.true)
 
 returns-2 : tie.Need-returns-2
-unfolding longOf
+unfolding long_of
 returns-2 c = rw (← c.before.opening-ok.ensures, c.if1.false)
 
 pub long-spec : {M : Type 1} → statement M

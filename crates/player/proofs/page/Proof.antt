@@ -1,7 +1,7 @@
 -- `player::page` meets its contract: the lines of the next steps, or the refusal's. Assumes nothing.
 use Prim.Native.Nat.{◌<◌}
 use native.Mathlib.Omega.{arith}
-use Rattle.player.proofs.Whole.{lines_left, refusal-left}
+use Rattle.player.proofs.Whole.{lines_left, refusal_left}
 use borrow.Author.Rules.{rules}
 use Rattle.player.proofs.page.Statement.{statement}
 use Rattle.player.proofs.page.Tie as tie
@@ -36,7 +36,7 @@ returns-2 : tie.Need-returns-2
 returns-2 c =
     let s = c.before.before.before.before.before.before.before.before.args in
     let l = c.before.before.refusal-line in
-    (search rules, (omega arith, refusal-left s.s.number s.s.left s.s.playing _ _ c.before.before.before.before.if1.false (omega arith) l.ensures.1))
+    (search rules, (omega arith, refusal_left s.s.number s.s.left s.s.playing _ _ c.before.before.before.before.if1.false (omega arith) l.ensures.1))
 
 pub page-spec : {M : Type 1} → statement M
 page-spec =

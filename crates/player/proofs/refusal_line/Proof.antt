@@ -3,7 +3,7 @@ use Prim.Native.Nat.{ℕ}
 use mathlib.Core.Path.{ap, ◌∙◌}
 use mathlib.Core.List.{List, [], ◌∷◌, ◌++◌}
 use native.Mathlib.Omega.{arith}
-use Rattle.player.specs.Text.{refusalLine}
+use Rattle.player.specs.Text.{refusal_line}
 use borrow.Author.Rules.{rules}
 use Rattle.player.proofs.refusal_line.Statement.{statement}
 use Rattle.player.proofs.refusal_line.Tie as tie
@@ -18,7 +18,7 @@ same_length : tie.Need-same-length
 same_length c = search rules
 
 returns : tie.Need-returns
-unfolding refusalLine
+unfolding refusal_line
 returns c =
     (omega arith, c.before.before.put.ensures.1 ∙ ap (λ (l : List ℕ). l ++ (10 ∷ [])) c.before.before.before.before.before.before.digits.ensures.1)
 

@@ -1,4 +1,4 @@
--- `power::exp` meets its contract: each answer is its definition's, whose distance is `exp-near`. Assumes nothing.
+-- `power::exp` meets its contract: each answer is its definition's, whose distance is `exp_near`. Assumes nothing.
 use mathlib.Core.Path.{◌≡◌, sym, ◌∙◌, subst}
 use mathlib.Core.Bool.{◌&&◌}
 use native.Mathlib.Omega.{arith}
@@ -7,22 +7,22 @@ use lib.Ieee.{Float, of_bits, neg, div, le}
 use lib.Ieee.Bits.{is_true}
 use lib.Ieee.Fits.{and_l, and_r}
 use Rattle.fixed.proofs.Order.{on, off}
-use Rattle.power.specs.Power.{zeroF, expLow, log2E, fallOf, expOf}
+use Rattle.power.specs.Power.{zero_f, exp_low, log2_e, fall_of, exp_of}
 use Rattle.power.specs.Near.{ExpNear}
-use Rattle.power.proofs.Curves.{exp-near}
-use Rattle.power.proofs.Ranges.{Room, exp-room}
+use Rattle.power.proofs.Curves.{exp_near}
+use Rattle.power.proofs.Ranges.{Room, exp_room}
 use Rattle.power.proofs.exp.Statement.{statement}
 use Rattle.power.proofs.exp.Tie as tie
 
-both : (t r : Float) → r ≡ expOf t → (r ≡ expOf t) × ExpNear t r
-both t r e = (e, subst (ExpNear t) (sym e) (exp-near t))
+both : (t r : Float) → r ≡ exp_of t → (r ≡ exp_of t) × ExpNear t r
+both t r e = (e, subst (ExpNear t) (sym e) (exp_near t))
 
-inside : (c : tie.Then1) → T (le expLow c.before.args.t && le c.before.args.t zeroF)
+inside : (c : tie.Then1) → T (le exp_low c.before.args.t && le c.before.args.t zero_f)
 unfolding of_bits neg
 inside c = on c.if1.true
 
-room : (c : tie.Then1) → Room c.before.args.t log2E
-room c = let t = c.before.args.t in exp-room t (and_l (le expLow t) (le t zeroF) (inside c)) (and_r (le expLow t) (le t zeroF) (inside c))
+room : (c : tie.Then1) → Room c.before.args.t log2_e
+room c = let t = c.before.args.t in exp_room t (and_l (le exp_low t) (le t zero_f) (inside c)) (and_r (le exp_low t) (le t zero_f) (inside c))
 
 size-requires : tie.Need-size-requires
 size-requires c κs = (room c).narrow
@@ -39,11 +39,11 @@ power-requires c κs = rw (c.product.ensures, c.before.size.ensures) (omega (ari
 returns : tie.Need-returns
 returns c =
     let t = c.before.before.before.before.args.t in
-    both t c.power.result (c.power.ensures ∙ rw (c.before.product.ensures, c.before.before.size.ensures) (unfold expOf fallOf in rw (is_true (le expLow t && le t zeroF) (inside c.before.before.before))))
+    both t c.power.result (c.power.ensures ∙ rw (c.before.product.ensures, c.before.before.size.ensures) (unfold exp_of fall_of in rw (is_true (le exp_low t && le t zero_f) (inside c.before.before.before))))
 
 returns-2 : tie.Need-returns-2
 unfolding of_bits neg div
-returns-2 c = let t = c.before.args.t in both t _ (sym ((exp-near t).elsewhere (off c.if1.false)))
+returns-2 c = let t = c.before.args.t in both t _ (sym ((exp_near t).elsewhere (off c.if1.false)))
 
 pub exp-spec : {M : Type 1} → statement M
 exp-spec =

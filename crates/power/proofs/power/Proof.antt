@@ -4,8 +4,8 @@ use Prim.Native.Nat.{ℕ, ◌+◌, ◌-◌, ◌*◌, ◌/◌}
 use native.Mathlib.Omega.{arith}
 use lib.Dec.{le→leb}
 use lib.Ieee.{binary32, of_bits, in_float}
-use Rattle.power.specs.Power.{fractionOf, powerOf}
-use Rattle.power.proofs.Scaling.{product-is-pattern}
+use Rattle.power.specs.Power.{fraction_of, power_of}
+use Rattle.power.proofs.Scaling.{product_is_pattern}
 use borrow.Author.Rules.{rules}
 use Rattle.power.proofs.power.Statement.{statement}
 use Rattle.power.proofs.power.Tie as tie
@@ -36,12 +36,12 @@ once : (s : ℕ) → (s + 274877906944) / 549755813888 ≡ (s / 1073741824 + 256
 once s = omega arith
 
 returns : tie.Need-returns
-unfolding powerOf fractionOf
+unfolding power_of fraction_of
 returns c =
     let s = c.before.before.scaled.result in
     let e = c.before.before.scaled.ensures in
     let i = c.before.before.before.args.w / 4294967296 - 2 in
-    product-is-pattern i ((s + 274877906944) / 549755813888) c.at.result (omega (arith, c.before.before.before.requires.1)) (omega (arith, e.1)) (omega (arith, e.2)) c.at.ensures
+    product_is_pattern i ((s + 274877906944) / 549755813888) c.at.result (omega (arith, c.before.before.before.requires.1)) (omega (arith, e.1)) (omega (arith, e.2)) c.at.ensures
     ∙ ap (λ (m : ℕ). of_bits binary32 (i * 8388608 + m)) (once s ∙ ap (λ (z : ℕ). (z / 1073741824 + 256) / 512) e.0)
 
 pub power-spec : {M : Type 1} → statement M

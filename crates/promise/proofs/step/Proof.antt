@@ -1,7 +1,7 @@
 -- `promise::step` meets its contract: the board's answer, which is that of a call, since what a caller lends as a `&[u8]` is a list of bytes. Assumes nothing.
 use native.Mathlib.Omega.{arith}
 use Rattle.frame.specs.Frame.{Bytes}
-use Rattle.promise.proofs.Calls.{step-answers}
+use Rattle.promise.proofs.Calls.{step_answers}
 use borrow.Author.Rules.{rules}
 use Rattle.promise.proofs.step.Statement.{statement}
 use Rattle.promise.proofs.step.Tie as tie
@@ -14,7 +14,7 @@ returns c =
     let k = c.before.before in
     let a = k.before.args in
     let B : Bytes a.f.now = λ i. omega (arith, k.shared-slice-known.given i) in
-    (c.step.ensures, step-answers a.board a.f.now a.dac.now a.fx.now a.x c.step.result B c.step.ensures)
+    (c.step.ensures, step_answers a.board a.f.now a.dac.now a.fx.now a.x c.step.result B c.step.ensures)
 
 pub step_spec : {M : Type 1} → statement M
 step_spec = tie.close (tie.spec step-requires returns)

@@ -1,5 +1,5 @@
 -- `recording::closed` meets its contract: a fresh board and no steps. Assumes nothing.
-use Rattle.recording.specs.Play.{closedOf}
+use Rattle.recording.specs.Play.{closed_of}
 use borrow.Author.Rules.{rules}
 use Rattle.recording.proofs.closed.Statement.{statement}
 use Rattle.recording.proofs.closed.Tie as tie
@@ -8,7 +8,7 @@ fresh-requires : tie.Need-fresh-requires
 fresh-requires c κs = search rules
 
 returns : tie.Need-returns
-unfolding closedOf
+unfolding closed_of
 returns c = rw (← c.fresh.ensures.0)
 
 pub closed-spec : {M : Type 1} → statement M

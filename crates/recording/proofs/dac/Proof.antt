@@ -9,23 +9,23 @@ use lib.Seq.{take-suc-set, take_all}
 use lib.IntN.{ℤ}
 use mir.Syntax.{w32}
 use mir.ValLaws.{to_z-of_z}
-use Rattle.recording.specs.Format.{number_at, word_of, dacAt}
+use Rattle.recording.specs.Format.{number_at, word_of, dac_at}
 use borrow.Author.Rules.{rules}
 use Rattle.recording.proofs.dac.Statement.{statement}
 use Rattle.recording.proofs.dac.Tie as tie
 
 abbrev invariant-loop : tie.invariant-loop
-invariant-loop rec o words₀ i₀ words i = (i ≤ 16) × (length words ≡ 16) × (take i words ≡ dacAt rec o i)
+invariant-loop rec o words₀ i₀ words i = (i ≤ 16) × (length words ≡ 16) × (take i words ≡ dac_at rec o i)
 
 abbrev decreases-loop : tie.decreases-loop
 decreases-loop rec o words₀ i₀ words i = 16 - i
 
-more : (rec : List ℕ) (o i : ℕ) (l : List ℤ) (w : ℤ) → i < length l → w ≡ word_of (number_at rec (o + 4 * i)) → take i l ≡ dacAt rec o i → take (i + 1) (set l i w) ≡ dacAt rec o (i + 1)
-unfolding dacAt
+more : (rec : List ℕ) (o i : ℕ) (l : List ℤ) (w : ℤ) → i < length l → w ≡ word_of (number_at rec (o + 4 * i)) → take i l ≡ dac_at rec o i → take (i + 1) (set l i w) ≡ dac_at rec o (i + 1)
+unfolding dac_at
 more rec o i l w h e k = rw (add-one, take-suc-set l i w h, e, k)
 
 loop-holds : tie.Need-loop-init invariant-loop decreases-loop
-unfolding dacAt
+unfolding dac_at
 loop-holds c = (search rules, refl, refl)
 
 mul-number : tie.Need-overflow-mul-number invariant-loop decreases-loop

@@ -1,5 +1,5 @@
 -- `recording::extent` meets its contract: the sum as it stands. Assumes nothing.
-use Rattle.recording.specs.Format.{extentOf}
+use Rattle.recording.specs.Format.{extent_of}
 use borrow.Author.Rules.{rules}
 use Rattle.recording.proofs.extent.Statement.{statement}
 use Rattle.recording.proofs.extent.Tie as tie
@@ -17,7 +17,7 @@ add-result-2 : tie.Need-overflow-add-result-2
 add-result-2 c = search rules
 
 returns : tie.Need-returns
-unfolding extentOf
+unfolding extent_of
 returns c = search rules
 
 pub extent-spec : {M : Type 1} → statement M

@@ -1,5 +1,5 @@
 -- `recording::inputs` meets its contract: each pattern by its own call. Assumes nothing.
-use Rattle.recording.specs.Format.{inputsAt}
+use Rattle.recording.specs.Format.{inputs_at}
 use borrow.Author.Rules.{rules}
 use Rattle.recording.proofs.inputs.Statement.{statement}
 use Rattle.recording.proofs.inputs.Tie as tie
@@ -38,7 +38,7 @@ input-requires-4 : tie.Need-input-requires-4
 input-requires-4 c κs = search rules
 
 returns : tie.Need-returns
-unfolding inputsAt
+unfolding inputs_at
 returns c = rw (← c.before.before.before.before.before.before.before.number.ensures, ← c.before.before.before.before.before.before.input.ensures, ← c.before.before.before.before.before.number2.ensures, ← c.before.before.before.before.input2.ensures, ← c.before.before.before.number3.ensures, ← c.before.before.input3.ensures, ← c.before.number4.ensures, ← c.input4.ensures)
 
 pub inputs-spec : {M : Type 1} → statement M

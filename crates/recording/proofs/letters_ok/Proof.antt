@@ -1,6 +1,6 @@
 -- `recording::letters_ok` meets its contract: the four bytes are tested. Assumes nothing.
 use mathlib.Core.Path.{refl}
-use Rattle.recording.specs.Format.{lettersOk}
+use Rattle.recording.specs.Format.{letters_ok}
 use borrow.Author.Rules.{rules}
 use Rattle.recording.proofs.letters_ok.Statement.{statement}
 use Rattle.recording.proofs.letters_ok.Tie as tie
@@ -18,7 +18,7 @@ shared-slice-read-result-4 : tie.Need-shared-slice-read-result-4
 shared-slice-read-result-4 c = search rules
 
 returns : tie.Need-returns
-unfolding lettersOk
+unfolding letters_ok
 returns c = refl
 
 pub letters-ok-spec : {M : Type 1} → statement M

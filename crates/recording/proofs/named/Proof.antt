@@ -3,19 +3,19 @@ use Prim.Native.Nat.{◌≤◌, ◌-◌}
 use mathlib.Core.Path.{◌≡◌, refl}
 use native.Mathlib.Numerals.{add-one}
 use native.Mathlib.Omega.{arith}
-use Rattle.recording.specs.Format.{namedTo}
+use Rattle.recording.specs.Format.{named_to}
 use borrow.Author.Rules.{rules}
 use Rattle.recording.proofs.named.Statement.{statement}
 use Rattle.recording.proofs.named.Tie as tie
 
 abbrev invariant-loop : tie.invariant-loop
-invariant-loop rec steps bodies ok₀ i₀ ok i = (i ≤ steps) × (ok ≡ namedTo rec bodies i)
+invariant-loop rec steps bodies ok₀ i₀ ok i = (i ≤ steps) × (ok ≡ named_to rec bodies i)
 
 abbrev decreases-loop : tie.decreases-loop
 decreases-loop rec steps bodies ok₀ i₀ ok i = steps - i
 
 loop-holds : tie.Need-loop-init invariant-loop decreases-loop
-unfolding namedTo
+unfolding named_to
 loop-holds c = (search rules, refl)
 
 cast-number : tie.Need-overflow-cast-number invariant-loop decreases-loop
@@ -37,7 +37,7 @@ loop-less : tie.Need-loop-smaller invariant-loop decreases-loop
 loop-less c = search rules
 
 loop-again : tie.Need-loop-preserved invariant-loop decreases-loop
-unfolding namedTo
+unfolding named_to
 loop-again c = (omega arith, rw (add-one, ← c.before.before.loop.invariant.1, ← c.number.ensures))
 
 returns : tie.Need-returns invariant-loop decreases-loop

@@ -1,5 +1,5 @@
 -- `recording::next` meets its contract: the tests in their order. Assumes nothing.
-use Rattle.recording.specs.Format.{extentOf}
+use Rattle.recording.specs.Format.{extent_of}
 use Rattle.recording.specs.Play.{next_of}
 use borrow.Author.Tests.{le-ltb, lt-ltb, eq-eqb, ne_eqb}
 use native.Mathlib.Omega.{arith}
@@ -21,11 +21,11 @@ add-number : tie.Need-overflow-add-number
 add-number c = search rules
 
 number-requires : tie.Need-number-requires
-unfolding extentOf
+unfolding extent_of
 number-requires c κs = omega arith
 
 passed-requires : tie.Need-passed-requires
-unfolding extentOf
+unfolding extent_of
 passed-requires c κs = (search rules, omega arith)
 
 returns : tie.Need-returns

@@ -1,12 +1,12 @@
 -- `recording::opening_ok` meets its contract: each field is tested. Assumes nothing.
 use borrow.Author.Tests.{le-ltb, lt-ltb}
-use Rattle.recording.specs.Format.{openingOk}
+use Rattle.recording.specs.Format.{opening_ok}
 use borrow.Author.Rules.{rules}
 use Rattle.recording.proofs.opening_ok.Statement.{statement}
 use Rattle.recording.proofs.opening_ok.Tie as tie
 
 returns : tie.Need-returns
-unfolding openingOk
+unfolding opening_ok
 returns c = rw (lt-ltb _ _ c.if1.true)
 
 number-requires : tie.Need-number-requires
@@ -37,7 +37,7 @@ shared-slice-read-result-4 : tie.Need-shared-slice-read-result-4
 shared-slice-read-result-4 c = search rules
 
 returns-2 : tie.Need-returns-2
-unfolding openingOk
+unfolding opening_ok
 returns-2 c = rw (le-ltb _ _ c.before.before.before.before.before.before.before.before.before.if1.false, ← c.before.before.before.before.before.before.before.before.number.ensures, ← c.before.before.before.before.before.before.before.in_bounds.ensures, ← c.before.before.before.before.before.before.number2.ensures, ← c.before.before.before.before.before.in-bounds2.ensures, ← c.before.before.before.before.letters-ok.ensures)
 
 pub opening-ok-spec : {M : Type 1} → statement M

@@ -1,5 +1,5 @@
 -- `recording::ready` meets its contract: the fields of the opening. Assumes nothing.
-use Rattle.recording.specs.Play.{readyOf}
+use Rattle.recording.specs.Play.{ready_of}
 use borrow.Author.Rules.{rules}
 use Rattle.recording.proofs.ready.Statement.{statement}
 use Rattle.recording.proofs.ready.Tie as tie
@@ -20,7 +20,7 @@ number-requires-3 : tie.Need-number-requires-3
 number-requires-3 c κs = search rules
 
 returns : tie.Need-returns
-unfolding readyOf
+unfolding ready_of
 returns c = rw (← c.before.before.before.before.number.ensures, ← c.before.before.fresh.ensures.0, ← c.before.number2.ensures, ← c.number3.ensures)
 
 pub ready-spec : {M : Type 1} → statement M

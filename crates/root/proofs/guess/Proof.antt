@@ -1,13 +1,13 @@
 -- `root::guess` meets its contract: the pattern is no NaN's. Assumes nothing.
 use native.Mathlib.Omega.{arith}
 use borrow.Author.Rules.{rules}
-use Rattle.fixed.proofs.Fields.{bits-no-nan}
-use Rattle.fixed.proofs.Order.{on, lt-left}
+use Rattle.fixed.proofs.Fields.{bits_no_nan}
+use Rattle.fixed.proofs.Order.{on, lt_left}
 use Rattle.root.proofs.guess.Statement.{statement}
 use Rattle.root.proofs.guess.Tie as tie
 
 float-from-bits-z : tie.Need-float-from-bits-z
-float-from-bits-z c = bits-no-nan c.args.p (omega arith)
+float-from-bits-z c = bits_no_nan c.args.p (omega arith)
 
 line-requires : tie.Need-line-requires
 line-requires c κs = search rules
@@ -16,7 +16,7 @@ returns : tie.Need-returns
 returns c = search rules
 
 float-to-bits-t : tie.Need-float-to-bits-t
-float-to-bits-t c = lt-left _ _ (on c.if2.true)
+float-to-bits-t c = lt_left _ _ (on c.if2.true)
 
 add-t : tie.Need-overflow-add-t
 add-t c = search rules

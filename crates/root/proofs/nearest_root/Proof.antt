@@ -2,7 +2,7 @@
 use Prim.Native.Nat.{ℕ, zero, suc, ◌+◌, ◌-◌, ◌*◌, ◌≤◌, ◌<◌}
 use native.Mathlib.Nat.{mul-le-mul}
 use native.Mathlib.Omega.{arith}
-use Rattle.root.proofs.Whole.{root_is, one-nearest, root-lt}
+use Rattle.root.proofs.Whole.{root_is, one_nearest, root_lt}
 use Rattle.root.proofs.nearest_root.Statement.{statement}
 use Rattle.root.proofs.nearest_root.Tie as tie
 
@@ -56,15 +56,15 @@ add-n : tie.Need-overflow-add-n invariant-loop decreases-loop invariant-loop2 de
 add-n c = omega arith
 
 loop2-less : tie.Need-loop2-smaller invariant-loop decreases-loop invariant-loop2 decreases-loop2
-loop2-less c = omega (arith, root-lt c.before.loop2.n (omega arith))
+loop2-less c = omega (arith, root_lt c.before.loop2.n (omega arith))
 
 loop2-again : tie.Need-loop2-preserved invariant-loop decreases-loop invariant-loop2 decreases-loop2
-loop2-again c = omega (arith, root-lt c.before.loop2.n (omega arith))
+loop2-again c = omega (arith, root_lt c.before.loop2.n (omega arith))
 
 returns : tie.Need-returns invariant-loop decreases-loop invariant-loop2 decreases-loop2
 returns c =
     let q = c.before.before.before.before.args.q in
-    one-nearest q c.before.loop2.n _ (record { past = omega arith; short = omega arith }) (root_is q (omega arith) (omega arith))
+    one_nearest q c.before.loop2.n _ (record { past = omega arith; short = omega arith }) (root_is q (omega arith) (omega arith))
 
 pub nearest-root-spec : {M : Type 1} → statement M
 nearest-root-spec =

@@ -1,11 +1,11 @@
--- `root::root_bits` meets its contract: the shifts lose nothing, so it computes `rootAt`. Assumes nothing.
+-- `root::root_bits` meets its contract: the shifts lose nothing, so it computes `root_at`. Assumes nothing.
 use mathlib.Core.Path.{◌≡◌, ◌∙◌, ap}
 use Prim.Native.Nat.{ℕ, ◌+◌, ◌*◌, ◌<◌}
 use native.Mathlib.Omega.{arith}
 use borrow.Author.Rules.{rules}
-use Rattle.root.specs.Root.{nearestRoot, scaled, exponent, rootAt}
+use Rattle.root.specs.Root.{nearest_root, scaled, exponent, root_at}
 use Rattle.root.proofs.Scaled.{Sizes, sizes}
-use Rattle.root.proofs.Cases.{bits-lt}
+use Rattle.root.proofs.Cases.{bits_lt}
 use Rattle.root.proofs.root_bits.Statement.{statement}
 use Rattle.root.proofs.root_bits.Tie as tie
 
@@ -28,7 +28,7 @@ mul-p : tie.Need-overflow-mul-p
 mul-p c = search rules
 
 sub-p : tie.Need-overflow-sub-p
-sub-p c = (known c).zeros-low
+sub-p c = (known c).zeros_low
 
 shl-p : tie.Need-overflow-shl-p
 shl-p c = omega (arith, known c)
@@ -66,17 +66,17 @@ sub-result-2 c = omega (arith, known c.before.before)
 mul-result : tie.Need-overflow-mul-result
 mul-result c = search rules
 
-root : (c : tie.After-nearest-root) → c.nearest-root.result ≡ nearestRoot (scaled c.before.before.args.d c.before.before.args.x)
-root c = c.nearest-root.ensures ∙ ap nearestRoot (known c.before.before).scaled-is
+root : (c : tie.After-nearest-root) → c.nearest-root.result ≡ nearest_root (scaled c.before.before.args.d c.before.before.args.x)
+root c = c.nearest-root.ensures ∙ ap nearest_root (known c.before.before).scaled_is
 
 small : (c : tie.After-nearest-root) → exponent c.before.before.args.d c.before.before.args.x * 8388608 + c.nearest-root.result < 2139095040
-small c = let s = c.before.before in rw (root c) (bits-lt s.args.d s.args.x s.requires.0 s.requires.1 s.requires.2 s.requires.3)
+small c = let s = c.before.before in rw (root c) (bits_lt s.args.d s.args.x s.requires.0 s.requires.1 s.requires.2 s.requires.3)
 
 add-result-2 : tie.Need-overflow-add-result-2
 add-result-2 c = omega (arith, small c)
 
 returns : tie.Need-returns
-unfolding rootAt
+unfolding root_at
 returns c = (ap (λ (n : ℕ). exponent c.before.before.args.d c.before.before.args.x * 8388608 + n) (root c), small c)
 
 pub root-bits-spec : {M : Type 1} → statement M

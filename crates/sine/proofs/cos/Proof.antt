@@ -1,16 +1,16 @@
--- `sine::cos` meets its contract: it computes `cosOf`, which `cos-near` holds to its distance. Assumes nothing.
+-- `sine::cos` meets its contract: it computes `cos_of`, which `cos_near` holds to its distance. Assumes nothing.
 use mathlib.Core.Path.{◌≡◌, ◌∙◌, sym, ap, subst}
 use Prim.Native.Nat.{ℕ, ◌/◌}
 use borrow.Author.Rules.{rules}
 use lib.Ieee.{Float, of_bits, div}
 use Rattle.fixed.proofs.Order.{on}
-use Rattle.sine.specs.Sine.{waveOf, cosOf, Sine}
-use Rattle.sine.proofs.Cases.{up_small, cos-near}
+use Rattle.sine.specs.Sine.{wave_of, cos_of, Sine}
+use Rattle.sine.proofs.Cases.{up_small, cos_near}
 use Rattle.sine.proofs.cos.Statement.{statement}
 use Rattle.sine.proofs.cos.Tie as tie
 
-both : (x r : Float) → r ≡ cosOf x → (r ≡ cosOf x) × Sine 1 x r
-both x r e = (e, subst (Sine 1 x) (sym e) (cos-near x))
+both : (x r : Float) → r ≡ cos_of x → (r ≡ cos_of x) × Sine 1 x r
+both x r e = (e, subst (Sine 1 x) (sym e) (cos_near x))
 
 size-requires : tie.Need-size-requires
 unfolding of_bits
@@ -20,13 +20,13 @@ wave-requires : tie.Need-wave-requires
 wave-requires c κs = search rules
 
 returns : tie.Need-returns
-unfolding cosOf of_bits
+unfolding cos_of of_bits
 returns c =
     both c.before.before.before.args.x c.wave.result
-    (rw c.before.before.if1.true (c.wave.ensures ∙ ap (λ (n : ℕ). waveOf 1 (n / 2)) c.before.size.ensures))
+    (rw c.before.before.if1.true (c.wave.ensures ∙ ap (λ (n : ℕ). wave_of 1 (n / 2)) c.before.size.ensures))
 
 returns-2 : tie.Need-returns-2
-unfolding cosOf of_bits div
+unfolding cos_of of_bits div
 returns-2 c = both c.before.args.x _ (rw c.if1.false)
 
 pub cos-spec : {M : Type 1} → statement M

@@ -5,8 +5,8 @@ use native.Mathlib.Nat.{le_of_lt, le_trans, mul-le-mul}
 use native.Mathlib.Omega.{arith}
 use borrow.Author.Rules.{rules}
 use Rattle.sine.specs.Series.{paired}
-use Rattle.sine.specs.Sine.{sincOf}
-use Rattle.sine.proofs.Pairs.{k₁, k₂, k₃, k₄, k₅, square_le, sinc-le}
+use Rattle.sine.specs.Sine.{sinc_of}
+use Rattle.sine.proofs.Pairs.{k₁, k₂, k₃, k₄, k₅, square_le, sinc_le}
 use Rattle.sine.proofs.sinc.Statement.{statement}
 use Rattle.sine.proofs.sinc.Tie as tie
 
@@ -49,15 +49,15 @@ mul-result-2 c = omega (arith, outer c)
 add-result-2 : tie.Need-overflow-add-result-2
 add-result-2 c = omega (arith, outer c)
 
-joined : (a b c v : ℕ) → a ≡ 4294967296 - k₁ * v / 4294967296 → b ≡ k₂ - k₃ * v / 4294967296 → c ≡ k₄ - k₅ * v / 4294967296 → a + (b + c * (v * v / 4294967296) / 4294967296) * (v * v / 4294967296) / 4294967296 ≡ sincOf v
-unfolding sincOf paired
+joined : (a b c v : ℕ) → a ≡ 4294967296 - k₁ * v / 4294967296 → b ≡ k₂ - k₃ * v / 4294967296 → c ≡ k₄ - k₅ * v / 4294967296 → a + (b + c * (v * v / 4294967296) / 4294967296) * (v * v / 4294967296) / 4294967296 ≡ sinc_of v
+unfolding sinc_of paired
 joined a b c v e₁ e₂ e₃ = rw (e₁, e₂, e₃)
 
-is : (c : tie.After-step3) → c.before.before.step.result + (c.before.step2.result + c.step3.result * square c / 4294967296) * square c / 4294967296 ≡ sincOf (argument c)
+is : (c : tie.After-step3) → c.before.before.step.result + (c.before.step2.result + c.step3.result * square c / 4294967296) * square c / 4294967296 ≡ sinc_of (argument c)
 is c = joined c.before.before.step.result c.before.step2.result c.step3.result (argument c) c.before.before.step.ensures.0 c.before.step2.ensures.0 c.step3.ensures.0
 
 returns : tie.Need-returns
-returns c = (is c, rw (is c) (sinc-le (argument c) (le_of_lt c.before.before.before.requires)))
+returns c = (is c, rw (is c) (sinc_le (argument c) (le_of_lt c.before.before.before.requires)))
 
 pub sinc-spec : {M : Type 1} → statement M
 sinc-spec =

@@ -3,7 +3,7 @@ use mathlib.Core.Path.{ap}
 use Prim.Native.Nat.{ℕ, ◌+◌, ◌*◌, ◌≤◌}
 use native.Mathlib.Nat.{mul-le-mul}
 use native.Mathlib.Omega.{arith}
-use Rattle.sine.specs.Sine.{quarter31, sineFix}
+use Rattle.sine.specs.Sine.{quarter31, sine_fix}
 use Rattle.sine.proofs.sine_fix.Statement.{statement}
 use Rattle.sine.proofs.sine_fix.Tie as tie
 
@@ -26,7 +26,7 @@ add-result : tie.Need-overflow-add-result
 add-result c = omega (arith, product c)
 
 returns : tie.Need-returns
-unfolding sineFix
+unfolding sine_fix
 returns c = (ap (λ (y : ℕ). c.before.args.z * y + 1) c.sinc.ensures.0, omega arith)
 
 pub sine-fix-spec : {M : Type 1} → statement M

@@ -1,4 +1,4 @@
--- `sine::tan` meets its contract: it computes `tanOf`, which `tan-near` holds to its distance. Assumes nothing.
+-- `sine::tan` meets its contract: it computes `tan_of`, which `tan_near` holds to its distance. Assumes nothing.
 use mathlib.Core.Path.{◌≡◌, ◌∙◌, sym, ap, subst}
 use mathlib.Core.Bool.{Bool, not}
 use Prim.Native.Nat.{ℕ, ◌+◌, ◌-◌, ◌*◌, ◌/◌, ◌%◌, ◌≤◌}
@@ -7,26 +7,26 @@ use native.Mathlib.Omega.{arith}
 use borrow.Author.Rules.{rules}
 use lib.Dec.{T}
 use lib.Ieee.{Float, binary32, fits, to_bits, of_bits, div}
-use Rattle.fixed.specs.Fixed.{packOf, small}
+use Rattle.fixed.specs.Fixed.{pack_of, small}
 use Rattle.fixed.proofs.Placed.{no_nan}
-use Rattle.sine.specs.Sine.{ratioOf, tanOf, Tangent}
-use Rattle.sine.proofs.Fields.{Ready, ready, narrow-small, tan-near}
+use Rattle.sine.specs.Sine.{ratio_of, tan_of, Tangent}
+use Rattle.sine.proofs.Fields.{Ready, ready, narrow_small, tan_near}
 use Rattle.sine.proofs.tan.Statement.{statement}
 use Rattle.sine.proofs.tan.Tie as tie
 
 held : (c : tie.Start) → T (fits binary32 c.args.x)
 held c = subst T (sym c.well-formed.0.1) tt
 
-both : (x r : Float) → T (fits binary32 x) → r ≡ tanOf x → (r ≡ tanOf x) × Tangent x r
-both x r h e = (e, subst (Tangent x) (sym e) (tan-near x h))
+both : (x r : Float) → T (fits binary32 x) → r ≡ tan_of x → (r ≡ tan_of x) × Tangent x r
+both x r h e = (e, subst (Tangent x) (sym e) (tan_near x h))
 
 returns : tie.Need-returns
-unfolding tanOf of_bits
+unfolding tan_of of_bits
 returns c = let s = c.before.before in both s.args.x s.args.x (held s) (rw (c.before.if1.true, c.if2.true))
 
 narrow : (c : tie.Else2) → T (small c.before.before.args.x)
 unfolding of_bits
-narrow c = narrow-small c.before.before.args.x (subst T (sym c.before.if1.true) tt)
+narrow c = narrow_small c.before.before.args.x (subst T (sym c.before.if1.true) tt)
 
 known : (c : tie.Else2) → Ready c.before.before.args.x
 unfolding of_bits
@@ -63,16 +63,16 @@ pack-requires : tie.Need-pack-requires
 pack-requires c κs = (mul-pos {m = to_bits binary32 c.before.before.before.before.args.x % 8388608 + 8388608} (omega arith) c.ratio.ensures.1, omega (arith, (known c.before.before).field))
 
 returns-2 : tie.Need-returns-2
-unfolding tanOf of_bits
+unfolding tan_of of_bits
 returns-2 c =
     let s = c.before.before.before.before.before in
     let b = to_bits binary32 s.args.x in
     both s.args.x c.pack.result (held s)
     (rw (c.before.before.before.before.if1.true, c.before.before.before.if2.false)
-    (c.pack.ensures.0 ∙ ap (λ (y : ℕ). packOf ((b % 8388608 + 8388608) * y) (182 - b % 2147483648 / 8388608)) (c.before.ratio.ensures.0 ∙ ap (λ (n : ℕ). ratioOf (n / 2)) c.before.before.size.ensures)))
+    (c.pack.ensures.0 ∙ ap (λ (y : ℕ). pack_of ((b % 8388608 + 8388608) * y) (182 - b % 2147483648 / 8388608)) (c.before.ratio.ensures.0 ∙ ap (λ (n : ℕ). ratio_of (n / 2)) c.before.before.size.ensures)))
 
 returns-3 : tie.Need-returns-3
-unfolding tanOf of_bits div
+unfolding tan_of of_bits div
 returns-3 c = both c.before.args.x _ (held c.before) (rw c.if1.false)
 
 pub tan-spec : {M : Type 1} → statement M

@@ -5,11 +5,11 @@ use native.Mathlib.Numerals.{add-one}
 use native.Mathlib.Omega.{arith}
 use mir.Syntax.{w32}
 use mir.ValLaws.{to_z-of_z}
-use Rattle.lists.specs.Turns.{turnsOf}
+use Rattle.lists.specs.Turns.{turns_of}
 use Rattle.dual.proofs.Inside as Dual
 use Rattle.tom.proofs.Inside as Tom
 use Rattle.sources.specs.declared.Sources.{Sources}
-use Rattle.sources.specs.Sources.{dualTurn, dualsOf, tomTurn, tomsOf, metalOf, soundOf}
+use Rattle.sources.specs.Sources.{dual_turn, duals_of, tom_turn, toms_of, metal_of, sound_of}
 use borrow.Author.Rules.{rules}
 use Rattle.sources.proofs.sound.Statement.{statement}
 use Rattle.sources.proofs.sound.Tie as tie
@@ -17,7 +17,7 @@ use Rattle.sources.proofs.sound.Tie as tie
 abbrev invariant-loop : tie.invariant-loop
 invariant-loop hat toms cym f dac duals₀ w₀ src₀ d₀ duals w src d =
     let now : Sources = record { duals = duals; hat = hat; toms = toms; cym = cym; w = w; src = src } in
-    (d ≤ 3) × (now ≡ turnsOf d (dualTurn f) (record { duals = duals₀; hat = hat; toms = toms; cym = cym; w = w₀; src = src₀ }))
+    (d ≤ 3) × (now ≡ turns_of d (dual_turn f) (record { duals = duals₀; hat = hat; toms = toms; cym = cym; w = w₀; src = src₀ }))
 
 abbrev decreases-loop : tie.decreases-loop
 decreases-loop hat toms cym f dac duals₀ w₀ src₀ d₀ duals w src d = 3 - d
@@ -25,13 +25,13 @@ decreases-loop hat toms cym f dac duals₀ w₀ src₀ d₀ duals w src d = 3 - 
 abbrev invariant-loop2 : tie.invariant-loop2
 invariant-loop2 hat cym f dac duals w₀ src₀ d toms₀ t₀ w src toms t =
     let now : Sources = record { duals = duals; hat = hat; toms = toms; cym = cym; w = w; src = src } in
-    (t ≤ 3) × (now ≡ turnsOf t (tomTurn f dac) (record { duals = duals; hat = hat; toms = toms₀; cym = cym; w = w₀; src = src₀ }))
+    (t ≤ 3) × (now ≡ turns_of t (tom_turn f dac) (record { duals = duals; hat = hat; toms = toms₀; cym = cym; w = w₀; src = src₀ }))
 
 abbrev decreases-loop2 : tie.decreases-loop2
 decreases-loop2 hat cym f dac duals w₀ src₀ d toms₀ t₀ w src toms t = 3 - t
 
 loop-holds : tie.Need-loop-init invariant-loop decreases-loop invariant-loop2 decreases-loop2
-unfolding turnsOf
+unfolding turns_of
 loop-holds c = (search rules, refl)
 
 dual-spec-requires : tie.Need-dual-spec-requires invariant-loop decreases-loop invariant-loop2 decreases-loop2
@@ -65,11 +65,11 @@ loop-less : tie.Need-loop-smaller invariant-loop decreases-loop invariant-loop2 
 loop-less c = search rules
 
 loop-again : tie.Need-loop-preserved invariant-loop decreases-loop invariant-loop2 decreases-loop2
-unfolding turnsOf dualTurn
+unfolding turns_of dual_turn
 loop-again c = (omega arith, rw (add-one, ← c.before.before.before.before.before.before.loop.invariant.1, ← c.before.before.before.before.dual-spec.ensures, ← c.before.before.sample.ensures))
 
 loop2-holds : tie.Need-loop2-init invariant-loop decreases-loop invariant-loop2 decreases-loop2
-unfolding turnsOf
+unfolding turns_of
 loop2-holds c = (search rules, refl)
 
 tom-spec-requires : tie.Need-tom-spec-requires invariant-loop decreases-loop invariant-loop2 decreases-loop2
@@ -106,7 +106,7 @@ loop2-less : tie.Need-loop2-smaller invariant-loop decreases-loop invariant-loop
 loop2-less c = search rules
 
 loop2-again : tie.Need-loop2-preserved invariant-loop decreases-loop invariant-loop2 decreases-loop2
-unfolding turnsOf tomTurn
+unfolding turns_of tom_turn
 loop2-again c = (omega arith, rw (add-one, ← c.before.before.before.before.before.before.before.loop2.invariant.1, ← c.before.before.before.before.before.tom-spec.ensures, ← c.before.before.before.before.dac-at.ensures, ← to_z-of_z w32 c.before.before.before.before.dac-at.result (record { sfits = c.before.before.before.before.dac-at.type-inv }), ← c.before.before.sample2.ensures))
 
 sample-requires-3 : tie.Need-sample-requires-3 invariant-loop decreases-loop invariant-loop2 decreases-loop2
@@ -122,7 +122,7 @@ array-write-src-4 : tie.Need-array-write-src-4 invariant-loop decreases-loop inv
 array-write-src-4 c = search rules
 
 returns : tie.Need-returns invariant-loop decreases-loop invariant-loop2 decreases-loop2
-unfolding soundOf metalOf tomsOf dualsOf
+unfolding sound_of metal_of toms_of duals_of
 returns c =
     let d : c.before.before.before.before.before.before.before.before.before.loop.d ≡ 3 = omega arith in
     let t : c.before.before.before.before.before.before.before.loop2.t ≡ 3 = omega arith in

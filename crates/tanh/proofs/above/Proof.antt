@@ -5,8 +5,8 @@ use native.Mathlib.Omega.{arith}
 use lib.Dec.{T}
 use lib.Ieee.{of_bits, lt, le, is_nan}
 use lib.Ieee.Bits.{is_true, is_false}
-use Rattle.fixed.proofs.Order.{on, off, le_right, not-lt, not-le}
-use Rattle.power.specs.Power.{zeroF}
+use Rattle.fixed.proofs.Order.{on, off, le_right, not_lt, not_le}
+use Rattle.power.specs.Power.{zero_f}
 use Rattle.tanh.specs.Tanh.{tiny, ten, above_of}
 use Rattle.tanh.proofs.Ranges.{Room, room}
 use borrow.Author.Rules.{rules}
@@ -14,7 +14,7 @@ use Rattle.tanh.proofs.above.Statement.{statement}
 use Rattle.tanh.proofs.above.Tie as tie
 
 number : (c : tie.Start) → T (not (is_nan c.args.a))
-number c = le_right zeroF c.args.a c.requires
+number c = le_right zero_f c.args.a c.requires
 
 -- between 2 ^ -10 and 10
 between : (c : tie.Else2) → Room c.before.before.args.a
@@ -22,7 +22,7 @@ unfolding of_bits
 between c =
     let a = c.before.before.args.a in
     let n = number c.before.before in
-    room a (not-lt a tiny n (unfold is_nan in tt) (off c.before.if1.false)) (not-le ten a (unfold is_nan in tt) n (off c.if2.false))
+    room a (not_lt a tiny n (unfold is_nan in tt) (off c.before.if1.false)) (not_le ten a (unfold is_nan in tt) n (off c.if2.false))
 
 returns : tie.Need-returns
 unfolding above_of of_bits

@@ -3,8 +3,8 @@ use mathlib.Core.Path.{sym}
 use mathlib.Core.List.{append-nil, append_assoc}
 use native.Mathlib.Omega.{arith}
 use borrow.Author.Rules.{rules}
-use Rattle.text.specs.Text.{digitsOf}
-use Rattle.text.proofs.Joined.{one-digit, more-digits}
+use Rattle.text.specs.Text.{digits_of}
+use Rattle.text.proofs.Joined.{one_digit, more_digits}
 use Prim.Native.Nat.{ℕ, ◌<◌}
 use borrow.Fn.Kinds.{In}
 use borrow.Fn.PlainCycle.{Measures, is, falls, and}
@@ -25,7 +25,7 @@ abbrev digits-below : ℕ → In 1 digits-kinds.ps
 digits-below t = and 1 digits-kinds.ps (falls 1 digits-kinds.ps ◌<◌ μ-digits t) digits.Pre
 
 digits-returns : (t : ℕ) → digits-lts.Need-returns (put_reads.Asked, put_reads.Learnt, digits-below t, digits.Post) (digits-at t) digits.Post
-unfolding digitsOf
+unfolding digits_of
 digits-returns t c = (omega arith, rw c.if1.true (sym (append-nil _)))
 
 digits-cast-put : (t : ℕ) → digits-lts.Need-overflow-cast-put (put_reads.Asked, put_reads.Learnt, digits-below t, digits.Post) (digits-at t) digits.Post
@@ -41,7 +41,7 @@ digits-same-length : (t : ℕ) → digits-lts.Need-same-length (put_reads.Asked,
 digits-same-length t c = search rules
 
 digits-returns-2 : (t : ℕ) → digits-lts.Need-returns-2 (put_reads.Asked, put_reads.Learnt, digits-below t, digits.Post) (digits-at t) digits.Post
-digits-returns-2 t c = (omega arith, rw (one-digit _ _ c.before.before.before.before.before.if1.false c.before.before.before.before.if2.true) c.before.before.put.ensures.1)
+digits-returns-2 t c = (omega arith, rw (one_digit _ _ c.before.before.before.before.before.if1.false c.before.before.before.before.if2.true) c.before.before.put.ensures.1)
 
 digits-sub-digits : (t : ℕ) → digits-lts.Need-overflow-sub-digits (put_reads.Asked, put_reads.Learnt, digits-below t, digits.Post) (digits-at t) digits.Post
 digits-sub-digits t c = search rules
@@ -64,7 +64,7 @@ digits-same-length-2 t c = search rules
 digits-returns-3 : (t : ℕ) → digits-lts.Need-returns-3 (put_reads.Asked, put_reads.Learnt, digits-below t, digits.Post) (digits-at t) digits.Post
 digits-returns-3 t c =
     let s = c.before.before.before.before.before.before.before.before in
-    (omega arith, rw (more-digits _ _ s.before.if1.false s.if2.false) (rw (c.before.before.before.before.before.before.digits.ensures.1, append_assoc) at c.before.before.put2.ensures.1))
+    (omega arith, rw (more_digits _ _ s.before.if1.false s.if2.false) (rw (c.before.before.before.before.before.before.digits.ensures.1, append_assoc) at c.before.before.put2.ensures.1))
 
 pub +digits-spec : {M : Type 1} → statement M
 +digits-spec = close μ-digits λ t. digits-lts.spec (put_reads.Asked, put_reads.Learnt, digits-below t, digits.Post)

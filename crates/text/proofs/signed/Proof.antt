@@ -6,7 +6,7 @@ use native.Mathlib.Omega.{arith}
 use mir.Syntax.{w32}
 use mir.Val.{to_z, of_z}
 use mir.ValLaws.{to_z-of_z}
-use Rattle.text.proofs.Joined.{with-sign, without_sign}
+use Rattle.text.proofs.Joined.{with_sign_lem, without_sign}
 use borrow.Author.Rules.{rules}
 use Rattle.text.proofs.signed.Statement.{statement}
 use Rattle.text.proofs.signed.Tie as tie
@@ -31,7 +31,7 @@ returns c =
     let s = c.before.before.before.before.before.before.before.before in
     let b = s.before.before.before in
     let n = s.before.size.ensures ∙ ap nat_abs (back b) in
-    (omega arith, rw (with-sign b.args.w (rw (back b) at s.if1.true)) (rw (c.before.before.before.before.before.before.put.ensures.1, append_assoc, n) at c.before.before.digits.ensures.1))
+    (omega arith, rw (with_sign_lem b.args.w (rw (back b) at s.if1.true)) (rw (c.before.before.before.before.before.before.put.ensures.1, append_assoc, n) at c.before.before.digits.ensures.1))
 
 digits-requires-2 : tie.Need-digits-requires-2
 digits-requires-2 c κs = search rules

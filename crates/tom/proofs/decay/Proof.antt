@@ -1,5 +1,5 @@
 -- `tom::decay` meets its contract: the calls' results put in. Assumes nothing.
-use Rattle.tom.specs.Tom.{decayOf}
+use Rattle.tom.specs.Tom.{decay_of}
 use borrow.Author.Rules.{rules}
 use Rattle.tom.proofs.decay.Statement.{statement}
 use Rattle.tom.proofs.decay.Tie as tie
@@ -14,7 +14,7 @@ exp-requires : tie.Need-exp-requires
 exp-requires c κs = search rules
 
 returns : tie.Need-returns
-unfolding decayOf
+unfolding decay_of
 returns c = rw (← c.before.before.max.ensures, ← c.before.exp2.ensures.0, ← c.exp.ensures.0)
 
 pub decay-spec : {M : Type 1} → statement M

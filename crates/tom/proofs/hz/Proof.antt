@@ -1,5 +1,5 @@
 -- `tom::hz` meets its contract: the call's result put in. Assumes nothing.
-use Rattle.tom.specs.Tom.{hzOf}
+use Rattle.tom.specs.Tom.{hz_of}
 use borrow.Author.Rules.{rules}
 use Rattle.tom.proofs.hz.Statement.{statement}
 use Rattle.tom.proofs.hz.Tie as tie
@@ -8,7 +8,7 @@ sqrt-requires : tie.Need-sqrt-requires
 sqrt-requires c κs = search rules
 
 returns : tie.Need-returns
-unfolding hzOf
+unfolding hz_of
 returns c = rw (← c.sqrt.ensures.0)
 
 pub hz-spec : {M : Type 1} → statement M

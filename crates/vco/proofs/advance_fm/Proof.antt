@@ -1,11 +1,11 @@
--- `vco::advance_fm` meets its contract: the calls' results put in, and what `advanced-fm-below` says of them. Assumes nothing.
+-- `vco::advance_fm` meets its contract: the calls' results put in, and what `advanced_fm_below` says of them. Assumes nothing.
 use mathlib.Core.Path.{◌≡◌, sym, ap, ◌∙◌, subst}
 use mathlib.Core.Bool.{cond}
 use lib.Dec.{T}
 use lib.Ieee.{Float, binary32, eq, fits}
 use Rattle.float.specs.Consts.{k0, k1}
-use Rattle.vco.specs.Vco.{advancedFm, BelowOne, KeepsBelowOne}
-use Rattle.vco.proofs.Kept.{turn_below, advanced-fm-below}
+use Rattle.vco.specs.Vco.{advanced_fm, BelowOne, KeepsBelowOne}
+use Rattle.vco.proofs.Kept.{turn_below, advanced_fm_below}
 use borrow.Author.Rules.{rules}
 use Rattle.vco.proofs.advance_fm.Statement.{statement}
 use Rattle.vco.proofs.advance_fm.Tie as tie
@@ -16,11 +16,11 @@ rem-euclid-one-requires c κs = search rules
 choose-requires : tie.Need-choose-requires
 choose-requires c κs = search rules
 
-both : (ph hz fs r : Float) → T (fits binary32 ph) → r ≡ advancedFm ph hz fs → (r ≡ advancedFm ph hz fs) × KeepsBelowOne ph hz fs r
-both ph hz fs r f e = (e, λ h t. subst BelowOne (sym e) (turn_below (advancedFm ph hz fs) (advanced-fm-below ph hz fs f h t)))
+both : (ph hz fs r : Float) → T (fits binary32 ph) → r ≡ advanced_fm ph hz fs → (r ≡ advanced_fm ph hz fs) × KeepsBelowOne ph hz fs r
+both ph hz fs r f e = (e, λ h t. subst BelowOne (sym e) (turn_below (advanced_fm ph hz fs) (advanced_fm_below ph hz fs f h t)))
 
 returns : tie.Need-returns
-unfolding advancedFm
+unfolding advanced_fm
 returns c =
     let a = c.before.before in
     both a.args.ph a.args.hz a.args.fs _ (subst T (sym a.well-formed.0.1) tt)

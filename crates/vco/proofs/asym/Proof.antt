@@ -1,5 +1,5 @@
 -- `vco::asym` meets its contract: the calls' results put in. Assumes nothing.
-use Rattle.vco.specs.Vco.{asymOf}
+use Rattle.vco.specs.Vco.{asym_of}
 use borrow.Author.Rules.{rules}
 use Rattle.vco.proofs.asym.Statement.{statement}
 use Rattle.vco.proofs.asym.Tie as tie
@@ -8,7 +8,7 @@ choose-requires : tie.Need-choose-requires
 choose-requires c κs = search rules
 
 returns : tie.Need-returns
-unfolding asymOf
+unfolding asym_of
 returns c = rw (← c.choose.ensures)
 
 pub asym-spec : {M : Type 1} → statement M

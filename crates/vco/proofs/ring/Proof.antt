@@ -1,5 +1,5 @@
 -- `vco::ring` meets its contract: the calls' results put in. Assumes nothing.
-use Rattle.vco.specs.Vco.{ringOf}
+use Rattle.vco.specs.Vco.{ring_of}
 use borrow.Author.Rules.{rules}
 use Rattle.vco.proofs.ring.Statement.{statement}
 use Rattle.vco.proofs.ring.Tie as tie
@@ -11,7 +11,7 @@ choose-requires-2 : tie.Need-choose-requires-2
 choose-requires-2 c κs = search rules
 
 returns : tie.Need-returns
-unfolding ringOf
+unfolding ring_of
 returns c = rw (← c.before.choose.ensures, ← c.choose2.ensures)
 
 pub ring-spec : {M : Type 1} → statement M

@@ -1,11 +1,11 @@
 -- `chain::Chain::new` meets its contract: as it stands. Assumes nothing.
 use mathlib.Core.Path.{refl}
-use Rattle.chain.specs.Chain.{chainNew}
+use Rattle.chain.specs.Chain.{chain_new}
 use Rattle.chain.proofs.Chain.new.Statement.{statement}
 use Rattle.chain.proofs.Chain.new.Tie as tie
 
 returns : tie.Need-returns
-unfolding chainNew
+unfolding chain_new
 returns c = refl
 
 pub new_spec : {M : Type 1} → statement M

@@ -1,5 +1,5 @@
 -- `chain::Chain::process` meets its contract: the calls' results put in, in the program's order. Assumes nothing.
-use Rattle.chain.specs.Chain.{processOf}
+use Rattle.chain.specs.Chain.{process_of}
 use borrow.Author.Rules.{rules}
 use Rattle.chain.proofs.Chain.process.Statement.{statement}
 use Rattle.chain.proofs.Chain.process.Tie as tie
@@ -26,7 +26,7 @@ gain-requires : tie.Need-gain-requires
 gain-requires c κs = search rules
 
 returns : tie.Need-returns
-unfolding processOf
+unfolding process_of
 returns c = rw (← c.before.before.before.before.before.before.before.before.before.read.ensures, ← c.before.before.before.before.before.before.filter.ensures, ← c.before.before.before.before.before.amp.ensures, ← c.before.before.before.before.cutoff.ensures, ← c.before.before.before.overdrive.ensures, ← c.before.before.run-filter.ensures, ← c.before.gain.ensures)
 
 pub process-spec : {M : Type 1} → statement M

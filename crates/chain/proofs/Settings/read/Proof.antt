@@ -1,5 +1,5 @@
 -- `chain::Settings::read` meets its contract: each field by its call. Assumes nothing.
-use Rattle.chain.specs.Chain.{settingsOf}
+use Rattle.chain.specs.Chain.{settings_of}
 use borrow.Author.Rules.{rules}
 use Rattle.chain.proofs.Settings.read.Statement.{statement}
 use Rattle.chain.proofs.Settings.read.Tie as tie
@@ -65,7 +65,7 @@ bytes-requires-2 : tie.Need-bytes-requires-2
 bytes-requires-2 c κs = search rules
 
 returns : tie.Need-returns
-unfolding settingsOf
+unfolding settings_of
 returns c = rw (← c.before.before.before.before.before.before.before.word-f32.ensures, ← c.before.before.before.before.before.before.signed-f32.ensures, ← c.before.before.before.before.before.signed-f322.ensures, ← c.before.before.before.before.word-f322.ensures, ← c.before.before.before.flt-code.ensures, ← c.before.before.from-code.ensures, ← c.before.bytes.ensures, ← c.bytes2.ensures)
 
 pub read_spec : {M : Type 1} → statement M

@@ -1,5 +1,5 @@
 -- `comp::Comp::process` meets its contract: the calls' results put in. Assumes nothing.
-use Rattle.comp.specs.Comp.{processOf}
+use Rattle.comp.specs.Comp.{process_of}
 use borrow.Author.Rules.{rules}
 use Rattle.comp.proofs.Comp.process.Statement.{statement}
 use Rattle.comp.proofs.Comp.process.Tie as tie
@@ -35,7 +35,7 @@ gain-requires : tie.Need-gain-requires
 gain-requires c κs = search rules
 
 returns : tie.Need-returns
-unfolding processOf
+unfolding process_of
 returns c = rw (← c.before.before.before.before.before.before.before.before.before.before.read.ensures, ← c.before.before.before.before.before.before.before.before.before.peak.ensures, ← c.before.before.before.before.before.before.before.before.side.ensures, ← c.before.before.before.before.before.before.sidechain.ensures, ← c.before.before.before.before.before.detect.ensures, ← c.before.before.before.before.follow.ensures, ← c.before.before.before.reduction.ensures, ← c.before.before.vol-db.ensures, ← c.before.makeup.ensures, ← c.gain.ensures)
 
 pub process-spec : {M : Type 1} → statement M

@@ -1,6 +1,6 @@
 -- `comp::Settings::read` meets its contract: as it stands. Assumes nothing.
 use mathlib.Core.Path.{refl}
-use Rattle.comp.specs.Comp.{settingsOf}
+use Rattle.comp.specs.Comp.{settings_of}
 use borrow.Author.Rules.{rules}
 use Rattle.comp.proofs.Settings.read.Statement.{statement}
 use Rattle.comp.proofs.Settings.read.Tie as tie
@@ -42,7 +42,7 @@ int-to-float-t21 : tie.Need-int-to-float-t21
 int-to-float-t21 c = search rules
 
 returns : tie.Need-returns
-unfolding settingsOf
+unfolding settings_of
 returns c = refl
 
 pub read_spec : {M : Type 1} → statement M

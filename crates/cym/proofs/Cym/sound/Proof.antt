@@ -1,5 +1,5 @@
 -- `cym::Cym::sound` meets its contract: the calls' results put in, in the program's order. Assumes nothing.
-use Rattle.cym.specs.Cym.{soundOf}
+use Rattle.cym.specs.Cym.{sound_of}
 use borrow.Author.Rules.{rules}
 use Rattle.cym.proofs.Cym.sound.Statement.{statement}
 use Rattle.cym.proofs.Cym.sound.Tie as tie
@@ -26,7 +26,7 @@ word-f32-requires : tie.Need-word-f32-requires
 word-f32-requires c κs = search rules
 
 returns : tie.Need-returns
-unfolding soundOf
+unfolding sound_of
 returns c = rw (← c.before.before.before.before.before.before.before.before.before.before.before.run.ensures.0, ← c.before.before.before.before.before.before.before.before.before.before.signed-f32.ensures, ← c.before.before.before.before.before.before.before.before.before.at_least_one.ensures, ← c.before.before.before.before.before.before.before.before.from-u32.ensures, ← c.before.before.before.before.before.exp2.ensures.0, ← c.before.before.before.before.all-paths.ensures, ← c.before.word-f32.ensures)
 
 pub sound-spec : {M : Type 1} → statement M

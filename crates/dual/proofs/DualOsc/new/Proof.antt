@@ -1,5 +1,5 @@
 -- `dual::DualOsc::new` meets its contract: as it stands. Assumes nothing.
-use Rattle.dual.specs.Dual.{dualNew}
+use Rattle.dual.specs.Dual.{dual_new}
 use borrow.Author.Rules.{rules}
 use Rattle.dual.proofs.DualOsc.new.Statement.{statement}
 use Rattle.dual.proofs.DualOsc.new.Tie as tie
@@ -8,7 +8,7 @@ new-requires : tie.Need-new-requires
 new-requires c κs = search rules
 
 returns : tie.Need-returns
-unfolding dualNew
+unfolding dual_new
 returns c = rw (← c.new.ensures)
 
 pub new_spec : {M : Type 1} → statement M

@@ -1,5 +1,5 @@
 -- `dual::DualOsc::sample` meets its contract: the calls' results put in, in the program's order. Assumes nothing.
-use Rattle.dual.specs.Dual.{sampleOf}
+use Rattle.dual.specs.Dual.{sample_of}
 use borrow.Author.Rules.{rules}
 use Rattle.dual.proofs.DualOsc.sample.Statement.{statement}
 use Rattle.dual.proofs.DualOsc.sample.Tie as tie
@@ -50,7 +50,7 @@ gain-requires : tie.Need-gain-requires
 gain-requires c κs = search rules
 
 returns : tie.Need-returns
-unfolding sampleOf
+unfolding sample_of
 returns c = rw (← c.before.before.before.before.before.before.before.before.before.before.before.before.before.before.before.before.before.before.before.before.before.before.before.before.before.before.before.read.ensures, ← c.before.before.before.before.before.before.before.before.before.before.before.before.before.before.before.before.before.before.before.before.before.before.before.on-trig.ensures, ← c.before.before.before.before.before.before.before.before.before.before.before.before.before.before.before.dual.ensures, ← c.before.before.before.before.before.before.before.before.before.before.before.before.before.before.dual2.ensures, ← c.before.before.before.before.before.before.before.before.before.before.before.before.before.dual3.ensures, ← c.before.before.before.before.before.before.before.before.before.before.tick.ensures, ← c.before.before.before.before.before.before.before.before.tick2.ensures, ← c.before.before.before.before.hz.ensures, ← c.before.before.before.hz2.ensures, ← c.before.before.played.ensures, ← c.before.gain.ensures)
 
 pub sample-spec : {M : Type 1} → statement M

@@ -1,5 +1,5 @@
 -- `dual::Settings::read` meets its contract: each field by its call. Assumes nothing.
-use Rattle.dual.specs.Dual.{settingsOf}
+use Rattle.dual.specs.Dual.{settings_of}
 use borrow.Author.Rules.{rules}
 use Rattle.dual.proofs.Settings.read.Statement.{statement}
 use Rattle.dual.proofs.Settings.read.Tie as tie
@@ -50,7 +50,7 @@ record-requires-3 : tie.Need-record-requires-3
 record-requires-3 c κs = search rules
 
 returns : tie.Need-returns
-unfolding settingsOf
+unfolding settings_of
 returns c = rw (← c.before.before.before.before.before.before.before.before.before.before.before.before.before.before.switch.ensures, ← c.before.before.before.before.before.before.before.before.before.before.before.before.before.switch2.ensures, ← c.before.before.before.before.before.before.before.before.before.before.before.before.switch3.ensures, ← c.before.before.before.before.before.before.before.before.before.before.before.switch4.ensures, ← c.before.before.before.before.before.before.before.before.before.before.switch5.ensures, ← c.before.before.before.before.before.before.before.before.before.from-bits.ensures, ← c.before.before.before.before.before.before.before.before.switch6.ensures, ← c.before.before.before.before.before.before.before.switch7.ensures, ← c.before.before.before.before.before.before.cv.ensures, ← c.before.before.before.before.before.cv2.ensures, ← c.before.before.before.before.cv3.ensures, ← c.before.before.before.cv4.ensures, ← c.before.before.«record».ensures, ← c.before.record2.ensures, ← c.record3.ensures)
 
 pub read_spec : {M : Type 1} → statement M

@@ -1,5 +1,5 @@
 -- `envelope::Env::dual` meets its contract: its move, settled. Assumes nothing.
-use Rattle.envelope.specs.Moves.{settle, dualOf, dualMove}
+use Rattle.envelope.specs.Moves.{settle, dual_of, dual_move}
 use borrow.Author.Rules.{rules}
 use Rattle.envelope.proofs.Env.dual.Statement.{statement}
 use Rattle.envelope.proofs.Env.dual.Tie as tie
@@ -14,7 +14,7 @@ settled-requires : tie.Need-settled-requires
 settled-requires c κs = search rules
 
 returns : tie.Need-returns
-unfolding dualOf dualMove settle
+unfolding dual_of dual_move settle
 returns c = rw (← c.before.before.before.parse.ensures, ← c.before.before.same.ensures, ← c.settled.ensures)
 
 pub dual-spec : {M : Type 1} → statement M

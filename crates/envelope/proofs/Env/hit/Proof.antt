@@ -1,5 +1,5 @@
 -- `envelope::Env::hit` meets its contract: its move, settled. Assumes nothing.
-use Rattle.envelope.specs.Moves.{settle, hitOf, hitMove}
+use Rattle.envelope.specs.Moves.{settle, hit_of, hit_move}
 use borrow.Author.Rules.{rules}
 use Rattle.envelope.proofs.Env.hit.Statement.{statement}
 use Rattle.envelope.proofs.Env.hit.Tie as tie
@@ -14,7 +14,7 @@ settled-requires : tie.Need-settled-requires
 settled-requires c κs = search rules
 
 returns : tie.Need-returns
-unfolding hitOf hitMove settle
+unfolding hit_of hit_move settle
 returns c = rw (← c.before.before.before.parse.ensures, ← c.before.before.Mode-of.ensures, ← c.settled.ensures)
 
 pub hit-spec : {M : Type 1} → statement M

@@ -2,7 +2,7 @@
 use mathlib.Core.Path.{◌≡◌}
 use mathlib.Core.Bool.{true, false}
 use lib.Ieee.{le}
-use Rattle.envelope.specs.Record.{tickLevel}
+use Rattle.envelope.specs.Record.{tick_level}
 use borrow.Author.Rules.{rules}
 use Rattle.envelope.proofs.Env.tick.Statement.{statement}
 use Rattle.envelope.proofs.Env.tick.Tie as tie
@@ -14,13 +14,13 @@ signum-requires : tie.Need-signum-requires
 signum-requires c κs = search rules
 
 returns : tie.Need-returns
-unfolding tickLevel
+unfolding tick_level
 returns c =
     let near : le c.before.before.abs.result c.before.before.before.before.before.args.r.step ≡ true = c.if1.true in
     rw (← c.before.before.abs.ensures, near)
 
 returns-2 : tie.Need-returns-2
-unfolding tickLevel
+unfolding tick_level
 returns-2 c =
     let b = c.before.before.before.before.before in
     let far : le b.abs.result b.before.before.before.args.r.step ≡ false = c.before.before.before.if1.false in

@@ -3,8 +3,8 @@ use mathlib.Core.Path.{◌≡◌}
 use Prim.Native.Nat.{◌*◌, ◌%◌}
 use native.Mathlib.Omega.{arith}
 use lib.Pow.{shl_exact}
-use Rattle.envelope.specs.Record.{recordOf, step_of}
-use Rattle.envelope.proofs.Bytes.{either-set}
+use Rattle.envelope.specs.Record.{record_of, step_of}
+use Rattle.envelope.proofs.Bytes.{either_set}
 use borrow.Author.Rules.{rules}
 use Rattle.envelope.proofs.Record.parse.Statement.{statement}
 use Rattle.envelope.proofs.Record.parse.Tie as tie
@@ -43,11 +43,11 @@ level-requires-2 : tie.Need-level-requires-2
 level-requires-2 c κs = search rules
 
 returns : tie.Need-returns
-unfolding recordOf step_of
+unfolding record_of step_of
 returns c =
     let m = c.before.before.before.mant.result in
     let e : m * 16384 % 4294967296 ≡ m * 16384 = shl_exact 16 14 32 c.before.before.before.mant.ensures.1 (omega arith) in
-    rw (either-set, ← c.before.level.ensures, ← c.level2.ensures, ← c.before.before.before.before.exp.ensures.0, ← c.before.before.before.mant.ensures.0, c.before.before.from-u32.ensures, e)
+    rw (either_set, ← c.before.level.ensures, ← c.level2.ensures, ← c.before.before.before.before.exp.ensures.0, ← c.before.before.before.mant.ensures.0, c.before.before.from-u32.ensures, e)
 
 pub parse-spec : {M : Type 1} → statement M
 parse-spec =

@@ -1,5 +1,5 @@
 -- `envelope::SegEnv::amp` meets its contract: what restarts it, and the rest as any envelope of a chain. Assumes nothing.
-use Rattle.envelope.specs.Moves.{settle, segStarts, segMove, movedBy, segOf}
+use Rattle.envelope.specs.Moves.{settle, seg_starts, seg_move, moved_by, seg_of}
 use borrow.Author.Rules.{rules}
 use Rattle.envelope.proofs.SegEnv.amp.Statement.{statement}
 use Rattle.envelope.proofs.SegEnv.amp.Tie as tie
@@ -17,7 +17,7 @@ moved-requires : tie.Need-moved-requires
 moved-requires c κs = search rules
 
 returns : tie.Need-returns
-unfolding segOf segMove segStarts settle movedBy
+unfolding seg_of seg_move seg_starts settle moved_by
 returns c =
     let k = c.before.before in
     rw (c.moved.ensures, ← k.before.before.parse.ensures, ← k.before.of.ensures, ← k.Mode-of.ensures)

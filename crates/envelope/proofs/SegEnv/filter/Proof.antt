@@ -1,5 +1,5 @@
 -- `envelope::SegEnv::filter` meets its contract: what restarts it, and the rest as any envelope of a chain. Assumes nothing.
-use Rattle.envelope.specs.Moves.{settle, segStarts, segMove, movedBy, segOf}
+use Rattle.envelope.specs.Moves.{settle, seg_starts, seg_move, moved_by, seg_of}
 use borrow.Author.Rules.{rules}
 use Rattle.envelope.proofs.SegEnv.filter.Statement.{statement}
 use Rattle.envelope.proofs.SegEnv.filter.Tie as tie
@@ -20,7 +20,7 @@ moved-requires : tie.Need-moved-requires
 moved-requires c κs = search rules
 
 returns : tie.Need-returns
-unfolding segOf segMove segStarts settle movedBy
+unfolding seg_of seg_move seg_starts settle moved_by
 returns c =
     let k = c.before.before.before in
     rw (c.moved.ensures, ← k.before.before.parse.ensures, ← k.before.of.ensures, ← k.Mode-of.ensures, ← c.before.same.ensures)

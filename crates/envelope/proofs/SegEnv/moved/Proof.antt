@@ -1,5 +1,5 @@
 -- `envelope::SegEnv::moved` meets its contract: the calls' results put in. Assumes nothing.
-use Rattle.envelope.specs.Moves.{movedBy}
+use Rattle.envelope.specs.Moves.{moved_by}
 use borrow.Author.Rules.{rules}
 use Rattle.envelope.proofs.SegEnv.moved.Statement.{statement}
 use Rattle.envelope.proofs.SegEnv.moved.Tie as tie
@@ -14,7 +14,7 @@ settled-requires : tie.Need-settled-requires
 settled-requires c κs = search rules
 
 returns : tie.Need-returns
-unfolding movedBy
+unfolding moved_by
 returns c = rw (c.settled.ensures, ← c.before.before.before.choose.ensures, ← c.before.hold-of.ensures)
 
 pub moved-spec : {M : Type 1} → statement M

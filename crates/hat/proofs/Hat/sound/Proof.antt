@@ -1,5 +1,5 @@
 -- `hat::Hat::sound` meets its contract: the calls' results put in, in the program's order. Assumes nothing.
-use Rattle.hat.specs.Hat.{soundOf}
+use Rattle.hat.specs.Hat.{sound_of}
 use borrow.Author.Rules.{rules}
 use Rattle.hat.proofs.Hat.sound.Statement.{statement}
 use Rattle.hat.proofs.Hat.sound.Tie as tie
@@ -20,7 +20,7 @@ exp2-requires : tie.Need-exp2-requires
 exp2-requires c κs = search rules
 
 returns : tie.Need-returns
-unfolding soundOf
+unfolding sound_of
 returns c = rw (← c.before.before.before.before.before.before.before.before.before.before.run.ensures.0, ← c.before.before.before.before.before.before.before.before.colour.ensures, ← c.before.before.before.before.before.before.before.tick.ensures, ← c.before.before.before.word-f32.ensures, ← c.before.exp2.ensures.0)
 
 pub sound-spec : {M : Type 1} → statement M

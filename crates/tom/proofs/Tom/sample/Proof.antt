@@ -2,7 +2,7 @@
 use native.Mathlib.Omega.{arith}
 use mir.Syntax.{w32}
 use mir.ValLaws.{to_z-of_z}
-use Rattle.tom.specs.Tom.{sampleOf}
+use Rattle.tom.specs.Tom.{sample_of}
 use Rattle.tom.proofs.Inside.{inside}
 use borrow.Author.Rules.{rules}
 use Rattle.tom.proofs.Tom.sample.Statement.{statement}
@@ -24,7 +24,7 @@ hz-requires : tie.Need-hz-requires
 hz-requires c κs = search rules
 
 returns : tie.Need-returns
-unfolding sampleOf
+unfolding sample_of
 returns c = rw (← to_z-of_z w32 c.before.before.before.before.before.before.before.before.before.before.args.d c.before.before.before.before.before.before.before.before.before.before.ranges.d, ← c.before.before.before.before.before.before.before.before.tom-spec.ensures, ← c.before.before.before.before.before.before.excite.ensures, ← c.before.before.before.before.word-f32.ensures, ← c.before.before.before.hz.ensures, c.before.before.if1.true)
 
 signed-f32-requires : tie.Need-signed-f32-requires
@@ -37,7 +37,7 @@ ring-requires : tie.Need-ring-requires
 ring-requires c κs = search rules
 
 returns-2 : tie.Need-returns-2
-unfolding sampleOf
+unfolding sample_of
 returns-2 c = rw (← to_z-of_z w32 c.before.before.before.before.before.before.before.before.before.before.before.args.d c.before.before.before.before.before.before.before.before.before.before.before.ranges.d, ← c.before.before.before.before.before.before.before.before.before.tom-spec.ensures, ← c.before.before.before.before.before.before.before.before.from-i32.ensures, ← c.before.before.before.before.before.before.before.excite.ensures, ← c.before.before.before.before.before.word-f32.ensures, ← c.before.before.before.before.hz.ensures, c.before.before.before.if1.false, ← c.before.before.signed-f32.ensures, ← c.before.decay.ensures, ← c.ring.ensures)
 
 pub sample-spec : {M : Type 1} → statement M

@@ -1,5 +1,5 @@
 -- `vco::Wave::at` meets its contract: by the waveform that the match found. Assumes nothing.
-use Rattle.vco.specs.Vco.{waveAt}
+use Rattle.vco.specs.Vco.{wave_at}
 use borrow.Author.Rules.{rules}
 use Rattle.vco.proofs.Wave.at.Statement.{statement}
 use Rattle.vco.proofs.Wave.at.Tie as tie
@@ -50,31 +50,31 @@ choose-requires : tie.Need-choose-requires
 choose-requires c κs = search rules
 
 returns : tie.Need-returns
-unfolding waveAt
+unfolding wave_at
 returns c = rw c.enum_told.given.1
 
 returns-2 : tie.Need-returns-2
-unfolding waveAt
+unfolding wave_at
 returns-2 c = rw (c.before.enum-told2.given.1, ← c.sin.ensures.0)
 
 returns-3 : tie.Need-returns-3
-unfolding waveAt
+unfolding wave_at
 returns-3 c = rw (c.before.before.enum-told3.given.1, ← c.before.asym.ensures, ← c.sin2.ensures.0)
 
 returns-4 : tie.Need-returns-4
-unfolding waveAt
+unfolding wave_at
 returns-4 c = rw (c.before.before.enum-told4.given.1, ← c.before.fract.ensures, ← c.abs.ensures)
 
 returns-5 : tie.Need-returns-5
-unfolding waveAt
+unfolding wave_at
 returns-5 c = rw (c.before.enum-told5.given.1, ← c.sin3.ensures.0)
 
 returns-6 : tie.Need-returns-6
-unfolding waveAt
+unfolding wave_at
 returns-6 c = rw (c.before.enum-told6.given.1, ← c.fract2.ensures)
 
 returns-7 : tie.Need-returns-7
-unfolding waveAt
+unfolding wave_at
 returns-7 c = rw (c.before.enum-told7.given.1, ← c.choose.ensures)
 
 pub at-spec : {M : Type 1} → statement M

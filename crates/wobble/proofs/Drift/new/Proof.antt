@@ -1,11 +1,11 @@
 -- `wobble::Drift::new` meets its contract: as it stands. Assumes nothing.
 use mathlib.Core.Path.{refl}
-use Rattle.wobble.specs.Wobble.{driftNew}
+use Rattle.wobble.specs.Wobble.{drift_new}
 use Rattle.wobble.proofs.Drift.new.Statement.{statement}
 use Rattle.wobble.proofs.Drift.new.Tie as tie
 
 returns : tie.Need-returns
-unfolding driftNew
+unfolding drift_new
 returns c = refl
 
 pub new_spec : {M : Type 1} → statement M

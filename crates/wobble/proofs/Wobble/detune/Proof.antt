@@ -1,5 +1,5 @@
 -- `wobble::Wobble::detune` meets its contract: the calls' results put in. Assumes nothing.
-use Rattle.wobble.specs.Wobble.{detuneOf}
+use Rattle.wobble.specs.Wobble.{detune_of}
 use borrow.Author.Rules.{rules}
 use Rattle.wobble.proofs.Wobble.detune.Statement.{statement}
 use Rattle.wobble.proofs.Wobble.detune.Tie as tie
@@ -11,7 +11,7 @@ exp2-requires : tie.Need-exp2-requires
 exp2-requires c κs = search rules
 
 returns : tie.Need-returns
-unfolding detuneOf
+unfolding detune_of
 returns c = rw (← c.before.before.before.before.uni.ensures, ← c.exp2.ensures.0)
 
 pub detune-spec : {M : Type 1} → statement M

@@ -1,5 +1,5 @@
 -- `wobble::Wobble::phase` meets its contract: the calls' results put in. Assumes nothing.
-use Rattle.wobble.specs.Wobble.{phaseOf}
+use Rattle.wobble.specs.Wobble.{phase_of}
 use borrow.Author.Rules.{rules}
 use Rattle.wobble.proofs.Wobble.phase.Statement.{statement}
 use Rattle.wobble.proofs.Wobble.phase.Tie as tie
@@ -11,7 +11,7 @@ choose-requires : tie.Need-choose-requires
 choose-requires c κs = search rules
 
 returns : tie.Need-returns
-unfolding phaseOf
+unfolding phase_of
 returns c = rw (← c.before.before.before.before.uni.ensures, ← c.choose.ensures)
 
 pub phase-spec : {M : Type 1} → statement M

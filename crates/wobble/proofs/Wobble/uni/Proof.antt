@@ -1,5 +1,5 @@
 -- `wobble::Wobble::uni` meets its contract: the calls' results put in. Assumes nothing.
-use Rattle.wobble.specs.Wobble.{uniOf}
+use Rattle.wobble.specs.Wobble.{uni_of}
 use borrow.Author.Rules.{rules}
 use Rattle.wobble.proofs.Wobble.uni.Statement.{statement}
 use Rattle.wobble.proofs.Wobble.uni.Tie as tie
@@ -11,7 +11,7 @@ from-u32-requires : tie.Need-from-u32-requires
 from-u32-requires c κs = search rules
 
 returns : tie.Need-returns
-unfolding uniOf
+unfolding uni_of
 returns c = rw (← c.before.xorshift.ensures, ← c.from-u32.ensures)
 
 pub uni-spec : {M : Type 1} → statement M

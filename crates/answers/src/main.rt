@@ -1,5 +1,7 @@
 // The board beside a fixed list of the Rust's answers, mix and all: stdin is a recording chosen for what it covers, stdout what
 // `tools/compare --print` wrote for it (tools/write-expected makes both). A line has the answer's number, the words, and the mix as bit patterns.
+#![tactic(auto)]
+
 use recording::Playing;
 
 // The bit pattern of x; of a value that is no number, that of the plain one.

@@ -1,4 +1,6 @@
 // The voice board, and one step with its refusals.
+#![tactic(auto)]
+
 ghost use Rattle.std.specs.Prelude.{◌≡◌, Bool, ◌≤◌, ◌<◌, length};
 ghost use Rattle.frame.specs.Offsets.{FRAME_BYTES};
 ghost use Rattle.board.specs.Board.{fresh_of, number_of, in_range, all_in_range, input_ok, inputs_ok, refusal_of, refused_of, words_of, stepped_of, answer_of};
@@ -13,7 +15,7 @@ use tom::Tom;
 use wobble::Wobble;
 
 #[repr(C)]
-#[derive(Drop)]
+#[derive(Clone, Copy)]
 pub struct Analog {
     pub duals: [DualOsc; 3],
     pub hat: Hat,
@@ -25,7 +27,7 @@ pub struct Analog {
 }
 
 // The board's audio inputs, and the external input to the main bus.
-#[derive(Drop)]
+#[derive(Clone, Copy)]
 pub struct Inputs {
     pub audio: Mix,
     pub ext: Mix,
@@ -54,7 +56,7 @@ pub fn fresh(seed: u32, ideal: bool) -> Analog
 }
 
 // How a call ends. The last three are of a recording alone; a step never answers them.
-#[derive(Drop)]
+#[derive(Clone, Copy)]
 pub enum Outcome {
     Done,
     ShortFrame,
@@ -84,7 +86,7 @@ pub fn number(o: Outcome) -> u32
     }
 }
 
-#[derive(Drop)]
+#[derive(Clone, Copy)]
 pub struct Answer {
     pub outcome: Outcome,
     pub rx: [i32; 12],

@@ -1,4 +1,6 @@
 // The board under C names: a fresh board, and a step. The caller tests nothing beforehand.
+#![tactic(auto)]
+
 ghost use Rattle.std.specs.Prelude.{◌≡◌};
 ghost use Rattle.board.specs.Board.{fresh_of};
 ghost use Rattle.promise.specs.Promise.{Promised};
@@ -9,7 +11,7 @@ use stereo::Mix;
 
 // A step's answer, with the number of its refusal, 0 for none.
 #[repr(C)]
-#[derive(Drop)]
+#[derive(Clone, Copy)]
 pub struct Answer {
     pub number: u32,
     pub rx: [i32; 12],

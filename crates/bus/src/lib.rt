@@ -1,4 +1,6 @@
 // From the sources to the main bus: each voice's chain, its receive word and its share of the mix, then the master distortion.
+#![tactic(auto)]
+
 ghost use Rattle.std.specs.Prelude.{◌≡◌, Bool, ◌≤◌, ◌<◌, length, get_or, pos};
 ghost use Rattle.frame.specs.Offsets.{FRAME_BYTES, VCA_R};
 ghost use Rattle.bus.specs.Bus.{dac_f, return_of, contribution_of, added_of, voices_of, distort_of, master_of};
@@ -50,7 +52,7 @@ fn added(f: &[u8], v: usize, m: Mix, y: f32) -> Mix
 }
 
 // The chains, the receive words and the mix, as far as the voices have gone.
-#[derive(Drop)]
+#[derive(Clone, Copy)]
 pub struct Bus {
     pub chains: [Chain; 8],
     pub rx: [i32; 12],

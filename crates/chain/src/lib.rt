@@ -1,4 +1,6 @@
 // A voice's own chain after its source: overdrive, multimode filter under its envelope, amp.
+#![tactic(auto)]
+
 ghost use Rattle.std.specs.Prelude.{◌≡◌, Bool, ◌≤◌, ◌<◌, length};
 ghost use Rattle.frame.specs.Offsets.{FRAME_BYTES};
 ghost use Rattle.chain.specs.Chain.{chain_new, drive_of, cutoff_of, res_of, coefs_of, multimode_of, lp1_of, pick_of, finite_or, gain_of, settings_of, filter_of, process_of};
@@ -7,7 +9,7 @@ use envelope::SegEnv;
 use frame::FltType;
 
 #[repr(C)]
-#[derive(Drop)]
+#[derive(Clone, Copy)]
 pub struct Chain {
     pub amp: SegEnv,
     pub flt: SegEnv,
@@ -17,14 +19,14 @@ pub struct Chain {
     pub lp1: f32,
 }
 
-#[derive(Drop)]
+#[derive(Clone, Copy)]
 pub struct ChainOut {
     pub chain: Chain,
     pub y: f32,
 }
 
 // What the frame says to a chain.
-#[derive(Drop)]
+#[derive(Clone, Copy)]
 pub struct Settings {
     pub ovr: f32,
     pub frq: f32,
@@ -81,7 +83,7 @@ fn resonance(word: f32) -> f32
 }
 
 // The filter's tangent, damping and quotients.
-#[derive(Drop)]
+#[derive(Clone, Copy)]
 pub struct Coefs {
     pub k: f32,
     pub a1: f32,
@@ -104,7 +106,7 @@ fn coefficients(fc: f32, res: f32) -> Coefs
 }
 
 // The integrators' next states, and the three outputs.
-#[derive(Drop)]
+#[derive(Clone, Copy)]
 pub struct Multimode {
     pub low: f32,
     pub band: f32,
@@ -152,7 +154,7 @@ fn pick(kind: FltType, s: Multimode, lp1: f32, x: f32, k: f32, res: f32) -> f32
 }
 
 // What the filter leaves: its states, and its sample. Where that is not finite it is 0, and the two integrators are cleared.
-#[derive(Drop)]
+#[derive(Clone, Copy)]
 pub struct Filtered {
     pub low: f32,
     pub band: f32,

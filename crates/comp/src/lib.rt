@@ -1,4 +1,6 @@
 // The master compressor: a peak detector with its sidechain filter, a static curve with a soft knee, make-up, dry against wet, volume.
+#![tactic(auto)]
+
 ghost use Rattle.std.specs.Prelude.{◌≡◌, Bool, ◌≤◌, ◌<◌, length};
 ghost use Rattle.float.specs.Consts.{k0p45};
 ghost use Rattle.float.specs.Ops.{◌⊗◌, ◌⊘◌};
@@ -10,20 +12,20 @@ use stereo::Mix;
 
 // The sidechain's two low-passes.
 #[repr(C)]
-#[derive(Drop)]
+#[derive(Clone, Copy)]
 pub struct Sc {
     pub lo: f32,
     pub hi: f32,
 }
 
 #[repr(C)]
-#[derive(Drop)]
+#[derive(Clone, Copy)]
 pub struct Comp {
     pub env: f32,
     pub sc: Sc,
 }
 
-#[derive(Drop)]
+#[derive(Clone, Copy)]
 pub struct CompOut {
     pub comp: Comp,
     pub mix: Mix,
@@ -36,7 +38,7 @@ const COMP_REL_S: [f32; 8] = [0.1, 0.2, 0.4, 0.6, 1.0, 2.0, 0.4, 0.6];
 const COMP_RATIO: [f32; 4] = [10.0, 6.0, 3.5, 2.5];
 
 // A row of VOL: the dry gain in dB under that of 127, and wet minus dry, which nothing reads.
-#[derive(Drop)]
+#[derive(Clone, Copy)]
 pub struct VolRow {
     pub vol: f32,
     pub dry: f32,
@@ -159,7 +161,7 @@ fn vol_row(i: usize) -> VolRow
 // ---- parameters
 
 // What the compressor reads off the FX parameters: of each 8.8 word the whole part.
-#[derive(Drop)]
+#[derive(Clone, Copy)]
 pub struct Settings {
     pub thr: f32,
     pub atk: u8,

@@ -1,4 +1,6 @@
 // The curves under C names: floats to floats, an answer for every bit pattern, and each with what document 01 promises of it.
+#![tactic(auto)]
+
 ghost use Rattle.std.specs.Prelude.{◌≡◌};
 ghost use Rattle.power.specs.Power.{exp2_of, exp_of, pow10_of};
 ghost use Rattle.power.specs.Near.{Exp2Near, ExpNear, Pow10Near};

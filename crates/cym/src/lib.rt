@@ -1,4 +1,6 @@
 // The cymbal and cowbell: the metal bank through five filtered paths, each under one of eight envelopes.
+#![tactic(auto)]
+
 ghost use Rattle.std.specs.Prelude.{◌≡◌, Bool, ◌≤◌, ◌<◌, max, length};
 ghost use Rattle.frame.specs.Offsets.{FRAME_BYTES};
 ghost use Rattle.lists.specs.Turns.{each_of};
@@ -9,7 +11,7 @@ use metal::Svf;
 use wobble::Wobble;
 
 #[repr(C)]
-#[derive(Drop)]
+#[derive(Clone, Copy)]
 pub struct Cym {
     pub ph: [f32; 6],
     pub det: [f32; 6],
@@ -19,7 +21,7 @@ pub struct Cym {
 }
 
 #[repr(C)]
-#[derive(Drop)]
+#[derive(Clone, Copy)]
 pub struct CymOut {
     pub cym: Cym,
     pub w: Wobble,
@@ -102,14 +104,14 @@ fn quiet(env: [Env; 8]) -> bool
 
 // ---- the five paths
 
-#[derive(Drop)]
+#[derive(Clone, Copy)]
 pub struct Paths {
     pub svf: [Svf; 5],
     pub out: f32,
 }
 
 // What the paths share: the bank's sum, whether it is the cowbell's, and what the colour multiplies a centre by.
-#[derive(Drop)]
+#[derive(Clone, Copy)]
 pub struct Metal {
     pub x: f32,
     pub cowbell: bool,

@@ -1,4 +1,6 @@
 // A dual-oscillator voice: BD, SD or RS.
+#![tactic(auto)]
+
 ghost use Rattle.std.specs.Prelude.{◌≡◌, Bool, ◌≤◌, ◌<◌, length};
 ghost use Rattle.frame.specs.Offsets.{FRAME_BYTES};
 ghost use Rattle.dual.specs.Dual.{dual_new, switch_at, cv_at, record_at, settings_of, trig_of, hz_of, gain_of, word_level, paired_of, plain_of, sound_of, sample_of};
@@ -13,7 +15,7 @@ const HZ_PER_TUNE: f32 = 55.0 / 678.0;
 const TUNE_PER_PITCH_LEVEL: f32 = 678.0 * 7.0 / 15.0;
 
 #[repr(C)]
-#[derive(Drop)]
+#[derive(Clone, Copy)]
 pub struct DualOsc {
     // The records as last seen: a changed record carrying the start command starts its segment.
     pub last_p: [u8; 8],
@@ -32,7 +34,7 @@ pub struct DualOsc {
 }
 
 #[repr(C)]
-#[derive(Drop)]
+#[derive(Clone, Copy)]
 pub struct DualOut {
     pub dual: DualOsc,
     pub w: Wobble,
@@ -40,7 +42,7 @@ pub struct DualOut {
 }
 
 // What the frame says to a voice.
-#[derive(Drop)]
+#[derive(Clone, Copy)]
 pub struct Settings {
     pub trig: bool,
     // Oscillator 1's wave switch.
@@ -104,7 +106,7 @@ impl Settings {
 }
 
 // The phases, the detunes and the random source after the trig switch.
-#[derive(Drop)]
+#[derive(Clone, Copy)]
 pub struct Trigged {
     pub ph1: f32,
     pub ph2: f32,
@@ -156,7 +158,7 @@ fn word_level(w: u16) -> f32
 }
 
 // The two phases and the oscillators' sum.
-#[derive(Drop)]
+#[derive(Clone, Copy)]
 pub struct Sound {
     pub ph1: f32,
     pub ph2: f32,

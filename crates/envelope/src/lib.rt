@@ -1,11 +1,13 @@
 // Envelope records, and the envelopes that follow them: Env (dual voices, hat, cymbal) and SegEnv (a chain's amp and filter).
+#![tactic(auto)]
+
 ghost use Rattle.std.specs.Prelude.{◌≡◌, Bool, true, false, not, ◌&&◌, ◌||◌, ◌+◌, ◌*◌, ◌/◌, ◌≤◌, ◌<◌};
 ghost use Rattle.envelope.specs.Record.{level_of, exp_of, mant_of, mode_of, rate_of, step_of, record_of, tick_of};
 ghost use Rattle.envelope.specs.Moves.{settled_by, alike, dual_of, hit_of, key_of, same_key, hold_of, moved_by, seg_of};
 
 // One 8-byte record. Its first word is a command: not zero starts the segment.
 #[repr(C)]
-#[derive(Drop)]
+#[derive(Clone, Copy)]
 pub struct Record {
     pub start_cmd: bool,
     pub start: f32,
@@ -65,7 +67,7 @@ impl Record {
 
 // An envelope segment playing toward its target.
 #[repr(C)]
-#[derive(Drop)]
+#[derive(Clone, Copy)]
 pub struct Env {
     pub level: f32,
 }
@@ -144,7 +146,7 @@ pub fn mode_of(r: [u8; 8]) -> u8
 
 // What a chain's envelope compares a record by: its levels and its rate.
 #[repr(C)]
-#[derive(Drop)]
+#[derive(Clone, Copy)]
 pub struct Key {
     pub start: u8,
     pub target: u8,
@@ -189,7 +191,7 @@ fn hold_of(mode: u8, rate: u32, d: f32, was: bool) -> bool
 
 // A chain's envelope.
 #[repr(C)]
-#[derive(Drop)]
+#[derive(Clone, Copy)]
 pub struct SegEnv {
     pub key: Key,
     pub level: f32,

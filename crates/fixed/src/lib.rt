@@ -1,4 +1,6 @@
 // A float taken apart into fixed point, and put together again. Qk is a whole number that stands for itself over 2^k.
+#![tactic(auto)]
+
 ghost use Rattle.std.specs.Prelude.{◌≡◌, ◌^◌, ◌<◌, ◌≤◌, T};
 ghost use Rattle.series.specs.Near.{Relative};
 ghost use Rattle.fixed.specs.Fixed.{small, place_at, place_of, size_at, size_of, pack_of};

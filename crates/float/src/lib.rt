@@ -1,4 +1,6 @@
 // Rust's functions on f32 as the source uses them, and its casts. Each gives what Rust gives for every argument.
+#![tactic(auto)]
+
 ghost use Rattle.std.specs.Prelude.{◌≡◌, ◌+◌, ◌-◌, ◌^◌, min, Bool, false, pos, if◌then◌else◌};
 ghost use Rattle.std.specs.Float.{binary32};
 ghost use Rattle.std.specs.Float.Ieee.{rem, lt, of_int, to_signed};

@@ -1,4 +1,6 @@
 // Fields of the control frame: words, switches, the route mask, filter codes, a record's bytes, and where each voice has its own.
+#![tactic(auto)]
+
 ghost use Rattle.std.specs.Prelude.{◌≡◌, ◌+◌, ◌*◌, ◌/◌, ◌<◌, ◌≤◌, length};
 ghost use Rattle.frame.specs.Frame.{word_at, word_f, signed_of, signed_f, bit_at, field_at, bytes_at, routed_off, flt_code, flt_type_of};
 ghost use Rattle.frame.specs.Offsets.{FRAME_BYTES, SWITCHES, dual_spec, tom_spec, cym_path, flt_at, route_bit};
@@ -58,7 +60,7 @@ pub const AMP2_REC: usize = 3;
 
 // A dual-oscillator voice: its CV block (TUNE1, TUNE2, LEVEL1, LEVEL2), its four envelope records, its seven switches
 // (0 trig, 1 oscillator 1's wave, 2, 3 and 6 oscillator 2's wave, 4 FM on, 5 ring modulation, active low).
-#[derive(Drop)]
+#[derive(Clone, Copy)]
 pub struct DualSpec {
     pub voice: usize,
     pub cv: usize,
@@ -88,7 +90,7 @@ const DUALS: [DualSpec; 3] = [
 ];
 
 // A tom: its tune and decay CVs and its exciter's DAC word.
-#[derive(Drop)]
+#[derive(Clone, Copy)]
 pub struct TomSpec {
     pub voice: usize,
     pub tune: usize,
@@ -118,7 +120,7 @@ const TOMS: [TomSpec; 3] = [
 ];
 
 // A path of the cymbal: its record, its centre in Hz, and whether it is a high-pass.
-#[derive(Drop)]
+#[derive(Clone, Copy)]
 pub struct CymPath {
     pub rec: usize,
     pub hz: f32,
@@ -154,7 +156,7 @@ const CYM_PATHS: [CymPath; 5] = [
 ];
 
 // Where a voice's filter type stands: the byte and the lowest of its three bits.
-#[derive(Drop)]
+#[derive(Clone, Copy)]
 pub struct FltAt {
     pub byte: usize,
     pub lo: u8,
@@ -343,7 +345,7 @@ pub fn flt_code(f: &[u8], v: usize) -> u8
     (f[k] >> s) & 7
 }
 
-#[derive(Drop)]
+#[derive(Clone, Copy)]
 pub enum FltType {
     Lp2,
     Lp1,

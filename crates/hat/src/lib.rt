@@ -1,4 +1,6 @@
 // The hihat: the metal bank through a high-pass, under one envelope.
+#![tactic(auto)]
+
 ghost use Rattle.std.specs.Prelude.{◌≡◌, Bool, ◌≤◌, length};
 ghost use Rattle.frame.specs.Offsets.{FRAME_BYTES};
 ghost use Rattle.hat.specs.Hat.{hat_new, colour_of, sound_of, sample_of};
@@ -8,7 +10,7 @@ use metal::Svf;
 use wobble::Wobble;
 
 #[repr(C)]
-#[derive(Drop)]
+#[derive(Clone, Copy)]
 pub struct Hat {
     pub ph: [f32; 6],
     pub det: [f32; 6],
@@ -18,7 +20,7 @@ pub struct Hat {
 }
 
 #[repr(C)]
-#[derive(Drop)]
+#[derive(Clone, Copy)]
 pub struct HatOut {
     pub hat: Hat,
     pub w: Wobble,

@@ -1,1 +1,2 @@
 // What loops do: turns in order, and a list whose elements each take their own rule. No code.
+#![tactic(auto)]

@@ -1,4 +1,6 @@
 // The logarithm to base 10. Qk is a whole number that stands for itself over 2^k.
+#![tactic(auto)]
+
 ghost use Rattle.std.specs.Prelude.{◌≡◌, ◌<◌, ◌≤◌, get_or};
 ghost use Rattle.log10.specs.Log10.{logs, rest_of, part_of, pack_zero, tenth_of, log10_of};
 ghost use Rattle.log10.specs.Near.{Log10Near};

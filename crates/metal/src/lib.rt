@@ -1,4 +1,6 @@
 // What the hat and the cymbal share: draws on a hit, a bank of six square waves, a state-variable filter.
+#![tactic(auto)]
+
 ghost use Rattle.std.specs.Prelude.{◌≡◌, Bool, ◌+◌, ◌≤◌, ◌<◌, length};
 ghost use Rattle.frame.specs.Offsets.{FRAME_BYTES};
 ghost use Rattle.lists.specs.Turns.{turns_of};
@@ -12,7 +14,7 @@ const HAT_UNITS_PER_HZ: f32 = 43.62;
 // ---- draws
 
 // Six numbers, and the random source.
-#[derive(Drop)]
+#[derive(Clone, Copy)]
 pub struct Draws {
     pub xs: [f32; 6],
     pub w: Wobble,
@@ -69,7 +71,7 @@ fn detunes(d: Draws) -> Draws
 }
 
 // The phases, the detunes and the random source of a voice.
-#[derive(Drop)]
+#[derive(Clone, Copy)]
 pub struct Drawn6 {
     pub ph: [f32; 6],
     pub det: [f32; 6],
@@ -108,7 +110,7 @@ pub fn on_hit(hit: bool, silent: bool, ph: [f32; 6], det: [f32; 6], w: Wobble) -
 
 // ---- the bank
 
-#[derive(Drop)]
+#[derive(Clone, Copy)]
 pub struct Bank {
     pub ph: [f32; 6],
     // The sum of the squares, and how many of them run.
@@ -158,13 +160,13 @@ pub fn run(f: &[u8], o: usize, ph: [f32; 6], det: [f32; 6], skip: bool) -> Bank
 // ---- the filter
 
 #[repr(C)]
-#[derive(Drop)]
+#[derive(Clone, Copy)]
 pub struct Svf {
     pub low: f32,
     pub band: f32,
 }
 
-#[derive(Drop)]
+#[derive(Clone, Copy)]
 pub struct SvfOut {
     pub svf: Svf,
     pub high: f32,

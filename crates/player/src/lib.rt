@@ -1,4 +1,6 @@
 // The text of a replay, page by page, and the reading and writing around it.
+#![tactic(auto)]
+
 ghost use Rattle.std.specs.Prelude.{◌≡◌, Bool, ◌++◌, ◌+◌, ◌*◌, ◌≤◌, ◌<◌, length, take};
 ghost use Rattle.io.specs.Counts.{IsPrefixLen};
 ghost use Rattle.recording.specs.Play.{next_of};
@@ -11,14 +13,14 @@ use recording::Playing;
 // ---- the text
 
 // The end of a text in a page, and the rest of the recording.
-#[derive(Drop)]
+#[derive(Clone, Copy)]
 struct End {
     at: usize,
     playing: Playing,
 }
 
 // What is left to write: so many lines of steps, or the line of a refusal.
-#[derive(Drop)]
+#[derive(Clone, Copy)]
 struct Rest {
     number: u32,
     left: u32,
@@ -26,7 +28,7 @@ struct Rest {
 }
 
 // The end of a text in a page, and what is left after it.
-#[derive(Drop)]
+#[derive(Clone, Copy)]
 struct Paged {
     at: usize,
     rest: Rest,
@@ -178,7 +180,7 @@ fn page(s: Rest, rec: &[u8], out: &mut [u8]) -> Paged
 // ---- reading and writing
 
 // What was read, and whether that failed.
-#[derive(Drop)]
+#[derive(Clone, Copy)]
 pub struct Filled {
     pub length: usize,
     pub failed: bool,

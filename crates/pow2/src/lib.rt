@@ -1,4 +1,6 @@
 // Powers of two, read off a table.
+#![tactic(auto)]
+
 ghost use Rattle.std.specs.Prelude.{◌<◌};
 ghost use Rattle.pow2.specs.Powers.{TwoPower, TwoPowers};
 

@@ -1,4 +1,6 @@
 // The two-power, the exponential and the power of ten, by one core in fixed point. Qk is a whole number that stands for itself over 2^k.
+#![tactic(auto)]
+
 ghost use Rattle.std.specs.Prelude.{◌≡◌, ◌+◌, ◌*◌, ◌/◌, ◌<◌, ◌≤◌, get_or};
 ghost use Rattle.fixed.specs.Fixed.{shifted};
 ghost use Rattle.power.specs.Power.{roots, scaled_of, fraction_of, power_of, product_of, exp2_of, exp_of, pow10_of};

@@ -1,4 +1,6 @@
 // A fresh board and its steps, and what every list of calls from it keeps.
+#![tactic(auto)]
+
 ghost use Rattle.std.specs.Prelude.{◌≡◌};
 ghost use Rattle.board.specs.Board.{fresh_of, answer_of};
 ghost use Rattle.promise.specs.Calls.{StepAnswer};

@@ -1,1 +1,2 @@
 // What a step gives to the curves lies in their ranges: laws. No code.
+#![tactic(auto)]

@@ -1,4 +1,6 @@
 // A step whose receive words are copied into lent memory as the firmware's audio interrupt does.
+#![tactic(auto)]
+
 ghost use mathlib.Core.Path.{◌≡◌};
 ghost use Rattle.receive.specs.Receive.{receive_refusal_of, refused_of, Receive};
 
@@ -6,7 +8,7 @@ use board::{Analog, Inputs, Outcome};
 use stereo::Mix;
 
 // What such a step answers; its words are in the destination.
-#[derive(Drop)]
+#[derive(Clone, Copy)]
 pub struct Received {
     pub outcome: Outcome,
     pub mix: Mix,

@@ -1,4 +1,6 @@
 // Recordings: an opening, the contents and the bodies in one slice of bytes, played step by step on a fresh board.
+#![tactic(auto)]
+
 ghost use Rattle.std.specs.Prelude.{◌≡◌, Bool, ℕ, ◌+◌, ◌*◌, ◌≤◌, ◌<◌, length};
 ghost use Rattle.std.specs.Float.{binary32};
 ghost use Rattle.std.specs.Float.Ieee.{of_bits};
@@ -11,7 +13,7 @@ use board::{Analog, Answer, Inputs, Outcome};
 use stereo::Mix;
 
 // A recording that is being played: its board, its counts and the number of its next step.
-#[derive(Drop)]
+#[derive(Clone, Copy)]
 pub struct Playing {
     pub board: Analog,
     pub steps: u32,
@@ -20,14 +22,14 @@ pub struct Playing {
 }
 
 // A recording opened; a refused one has no steps.
-#[derive(Drop)]
+#[derive(Clone, Copy)]
 pub struct Opened {
     pub outcome: Outcome,
     pub playing: Playing,
 }
 
 // What a step answers, and the rest of the recording.
-#[derive(Drop)]
+#[derive(Clone, Copy)]
 pub struct Played {
     pub outcome: Outcome,
     pub rx: [i32; 12],

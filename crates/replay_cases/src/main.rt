@@ -1,4 +1,6 @@
 // `replay` on each recording of data/, after a line with its name.
+#![tactic(auto)]
+
 fn play(name: &[u8]) {
     io::write_all(1, name);
     io::write_all(1, b"\n");

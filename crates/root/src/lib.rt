@@ -1,4 +1,6 @@
 // The square root of an f32, by the whole number nearest to the root of a scaled significand.
+#![tactic(auto)]
+
 ghost use Rattle.std.specs.Prelude.{◌≡◌, ◌+◌, ◌*◌, ◌^◌, ◌<◌, ◌≤◌};
 ghost use Rattle.root.specs.Root.{nearest_root, root_at, sqrt_of, Root};
 

@@ -1,4 +1,6 @@
 // Sine, cosine and tangent in fixed point. Qk is a whole number that stands for itself over 2^k.
+#![tactic(auto)]
+
 ghost use Rattle.std.specs.Prelude.{◌≡◌, not, ◌+◌, ◌-◌, ◌*◌, ◌/◌, ◌^◌, ◌<◌, ◌≤◌, T};
 ghost use Rattle.std.specs.Float.Ieee.{lt};
 ghost use Rattle.fixed.specs.Fixed.{size_of};

@@ -1,4 +1,6 @@
 // The receive words as the firmware reads them: the audio interrupt's copy of them by a slot table.
+#![tactic(auto)]
+
 ghost use mathlib.Core.Path.{◌≡◌};
 ghost use Prim.Native.Nat.{◌≤◌, ◌<◌};
 ghost use lib.ListN.{length};

@@ -1,4 +1,6 @@
 // The sources of a step, in the order that decides the draws: three dual voices, three toms, cymbal, hat.
+#![tactic(auto)]
+
 ghost use Rattle.std.specs.Prelude.{◌≡◌, ◌≤◌, ◌<◌, length, get_or, replicate, pos};
 ghost use Rattle.float.specs.Consts.{k0};
 ghost use Rattle.frame.specs.Offsets.{FRAME_BYTES};
@@ -11,7 +13,7 @@ use tom::Tom;
 use wobble::Wobble;
 
 // The sources as far as the step has gone, and the samples of the voices that have sounded.
-#[derive(Drop)]
+#[derive(Clone, Copy)]
 pub struct Sources {
     pub duals: [DualOsc; 3],
     pub hat: Hat,

@@ -1,4 +1,6 @@
 // The sound sources, and the calls that they stand on, under C names, for the comparison with the Rust.
+#![tactic(auto)]
+
 ghost use Rattle.std.specs.Prelude.{◌≡◌, Bool};
 ghost use Rattle.envelope.specs.Record.{record_of};
 ghost use Rattle.vco.specs.Vco.{wave_from_bits, wave_at, pair_of};
@@ -21,7 +23,7 @@ use wobble::Wobble;
 
 // A record's eight bytes.
 #[repr(C)]
-#[derive(Drop)]
+#[derive(Clone, Copy)]
 pub struct RecordBytes {
     pub b: [u8; 8],
 }
@@ -80,7 +82,7 @@ pub extern "C" fn rytm_wave_at(n: u32, ph: f32) -> f32
 
 // `Osc2Set` with its waveforms by number.
 #[repr(C)]
-#[derive(Drop)]
+#[derive(Clone, Copy)]
 pub struct NumberedSet {
     pub hz1: f32,
     pub hz2: f32,

@@ -1,4 +1,6 @@
 // The hyperbolic tangent. Qk is a whole number that stands for itself over 2^k.
+#![tactic(auto)]
+
 ghost use Rattle.std.specs.Prelude.{◌≡◌, ◌≤◌, T};
 ghost use Rattle.std.specs.Float.Ieee.{le};
 ghost use Rattle.power.specs.Power.{zero_f};

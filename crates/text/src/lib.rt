@@ -1,5 +1,7 @@
 // Numbers as text, put into a lent page one after the other: each function takes the place where it starts and gives the place after its text.
 // The kit's `io` has decimal digits too, at the start of an array of their own, and no signed numbers.
+#![tactic(auto)]
+
 ghost use Rattle.std.specs.Prelude.{◌≡◌, [], ◌∷◌, ◌++◌, ◌+◌, ◌*◌, ◌≤◌, ◌<◌, length, take, nat_abs};
 ghost use Rattle.text.specs.Text.{digits_of, signed_of, words_of};
 

@@ -1,4 +1,6 @@
 // A tom: a resonator that the DAC word of its exciter rings.
+#![tactic(auto)]
+
 ghost use Rattle.std.specs.Prelude.{◌≡◌, Bool, ◌≤◌, length};
 ghost use Rattle.frame.specs.Offsets.{FRAME_BYTES};
 ghost use Rattle.tom.specs.Tom.{tom_new, excite_of, hz_of, decay_of, ring_of, sample_of};
@@ -11,7 +13,7 @@ const TOM_HZ_PER_X: f32 = 0.1;
 const TOM_REST: u32 = 64;
 
 #[repr(C)]
-#[derive(Drop)]
+#[derive(Clone, Copy)]
 pub struct Tom {
     pub y1: f32,
     pub y2: f32,
@@ -22,7 +24,7 @@ pub struct Tom {
 }
 
 #[repr(C)]
-#[derive(Drop)]
+#[derive(Clone, Copy)]
 pub struct TomOut {
     pub tom: Tom,
     pub w: Wobble,
@@ -30,7 +32,7 @@ pub struct TomOut {
 }
 
 // The detune and the count after the exciter's word.
-#[derive(Drop)]
+#[derive(Clone, Copy)]
 pub struct Excited {
     pub det: f32,
     pub quiet: u32,

@@ -1,11 +1,13 @@
 // The dual-oscillator core of the BD, SD and RS voices: two oscillators, each with a waveform, and FM and ring modulation between them.
+#![tactic(auto)]
+
 ghost use Rattle.std.specs.Prelude.{◌≡◌, Bool};
 ghost use Rattle.vco.specs.Vco.{wave_from_bits, wave_at, asym_of, osc_of, ring_of, modulated, advanced, advanced_fm, KeepsBelowOne, pair_of};
 
 // FM depth: units of oscillator 2's level word per 1.0 of relative frequency deviation.
 pub const FM_UNITS: f32 = 4096.0;
 
-#[derive(Drop)]
+#[derive(Clone, Copy)]
 pub enum Wave {
     Off,
     Sine,
@@ -63,7 +65,7 @@ impl Wave {
 
 // One audio frame's settings of a dual-oscillator voice.
 #[repr(C)]
-#[derive(Drop)]
+#[derive(Clone, Copy)]
 pub struct Osc2Set {
     // Each oscillator's frequency in Hz.
     pub hz1: f32,
@@ -83,14 +85,14 @@ pub struct Osc2Set {
 
 // The two cores' phases.
 #[repr(C)]
-#[derive(Drop)]
+#[derive(Clone, Copy)]
 pub struct Pair {
     pub ph1: f32,
     pub ph2: f32,
 }
 
 #[repr(C)]
-#[derive(Drop)]
+#[derive(Clone, Copy)]
 pub struct PairOut {
     pub pair: Pair,
     pub y: f32,

@@ -1,4 +1,6 @@
 // The imperfections of analog parts: the random source that all voices share, and an oscillator's slow drift.
+#![tactic(auto)]
+
 ghost use Rattle.std.specs.Prelude.{◌≡◌, Bool};
 ghost use Rattle.wobble.specs.Wobble.{xorshift_of, new_of, uni_of, detune_of, phase_of, drift_new, drift_of};
 
@@ -14,7 +16,7 @@ const DRIFT_TAU: f32 = 0.5;
 const DRIFT_EVERY: u32 = 32;
 
 #[repr(C)]
-#[derive(Drop)]
+#[derive(Clone, Copy)]
 pub struct Wobble {
     pub s: u32,
     // 1 normally, 0 for ideal components.
@@ -23,7 +25,7 @@ pub struct Wobble {
 
 // The next state, and what was drawn.
 #[repr(C)]
-#[derive(Drop)]
+#[derive(Clone, Copy)]
 pub struct Drawn {
     pub w: Wobble,
     pub x: f32,
@@ -91,7 +93,7 @@ impl Wobble {
 
 // An oscillator's slow pitch wander: a random walk in cents, pulled back to the centre.
 #[repr(C)]
-#[derive(Drop)]
+#[derive(Clone, Copy)]
 pub struct Drift {
     pub cents: f32,
     pub ratio: f32,
@@ -99,7 +101,7 @@ pub struct Drift {
 }
 
 #[repr(C)]
-#[derive(Drop)]
+#[derive(Clone, Copy)]
 pub struct Drifted {
     pub drift: Drift,
     pub w: Wobble,

@@ -1,10 +1,6 @@
 -- `frame::be24` meets its contract, by the law of joined bytes. Assumes nothing.
 use Rattle.frame.proofs.Joined.{joined3}
-use Rattle.frame.proofs.be24.Statement.{statement}
-use Rattle.frame.proofs.be24.Tie as tie
+use Rattle.frame.proofs.be24.Goals as goal
 
-returns : tie.Need-returns
+pub returns : goal.returns
 returns c = joined3 c.args.a c.args.b c.args.c c.ranges.a.fits c.ranges.b.fits c.ranges.c.fits
-
-pub be24-spec : {M : Type 1} → statement M
-be24-spec = tie.close (tie.spec returns)

@@ -1,0 +1,36 @@
+-- `frame::route_bit` meets its contract: each arm is its entry of the table, and the last stands for all numbers from there on. Assumes nothing.
+use Rattle.lists.proofs.Missed.{missed_min}
+use Rattle.frame.specs.Offsets.{route_bit, route_bits}
+use Rattle.frame.proofs.route_bit.Goals as goal
+
+pub returns-in-0 : goal.returns-in-0
+unfolding route_bit route_bits
+returns-in-0 c = rw c.in-0.is
+
+pub returns-in-1 : goal.returns-in-1
+unfolding route_bit route_bits
+returns-in-1 c = rw c.in-1.is
+
+pub returns-in-2 : goal.returns-in-2
+unfolding route_bit route_bits
+returns-in-2 c = rw c.in-2.is
+
+pub returns-in-3 : goal.returns-in-3
+unfolding route_bit route_bits
+returns-in-3 c = rw c.in-3.is
+
+pub returns-in-4 : goal.returns-in-4
+unfolding route_bit route_bits
+returns-in-4 c = rw c.in-4.is
+
+pub returns-in-5 : goal.returns-in-5
+unfolding route_bit route_bits
+returns-in-5 c = rw c.in-5.is
+
+pub returns-in-6 : goal.returns-in-6
+unfolding route_bit route_bits
+returns-in-6 c = rw c.in-6.is
+
+pub returns-in_default : goal.returns-in_default
+unfolding route_bit route_bits
+returns-in_default c = rw (missed_min 7 c.args.v c.in_default.in_default-own.rest)

@@ -13,7 +13,7 @@ use Rattle.envelope.specs.declared.Key.{Key}
 use Rattle.frame.specs.Frame.{Bytes}
 use Rattle.envelope.specs.Record.{mode_of, record_of, tick_level}
 use Rattle.envelope.specs.Moves.{settle, alike, key_of, same_key, ramps, hold_of, seg_starts, dual_move, dual_of, hit_move, hit_of, seg_move, seg_of}
-use Rattle.envelope.specs.States.{State, dual, hit, chainAmp, chainFilter, level_within, move_in, after_in, after_times, NeverStops}
+use Rattle.envelope.specs.States.{State, dual, hit, chain_amp, chain_filter, level_within, move_in, after_in, after_times, NeverStops}
 use Rattle.envelope.specs.Levels.{Level, ticks}
 use Rattle.envelope.proofs.Ranges.{record_in}
 use Rattle.envelope.proofs.Run.{ticks_stay}
@@ -23,15 +23,15 @@ pub level_after : (s : State) (r : List ℕ) → level_within (after_in s r) ≡
 unfolding dual_of hit_of seg_of
 level_after (dual last x) r = refl
 level_after (hit mode x) r = refl
-level_after (chainAmp e) r = refl
-level_after (chainFilter e) r = refl
+level_after (chain_amp e) r = refl
+level_after (chain_filter e) r = refl
 
 pub move_bytes : (s : State) (r : List ℕ) → (move_in s r).bytes ≡ r
 unfolding dual_move hit_move seg_move
 move_bytes (dual last x) r = refl
 move_bytes (hit mode x) r = refl
-move_bytes (chainAmp e) r = refl
-move_bytes (chainFilter e) r = refl
+move_bytes (chain_amp e) r = refl
+move_bytes (chain_filter e) r = refl
 
 -- ---- a record that was just seen
 both : (a b : Bool) → a ≡ true → b ≡ true → (a && b) ≡ true
@@ -54,8 +54,8 @@ pub seen_restarts_nothing : (s : State) (r : List ℕ) → (move_in (after_in s 
 unfolding dual_move hit_move seg_move seg_starts seg_of
 seen_restarts_nothing (dual last x) r = rw (alike_refl 8 r)
 seen_restarts_nothing (hit mode x) r = never (eqb (mode_of r) 15)
-seen_restarts_nothing (chainAmp e) r = never (record_of r).start_cmd
-seen_restarts_nothing (chainFilter e) r = rw (same_refl (key_of r))
+seen_restarts_nothing (chain_amp e) r = never (record_of r).start_cmd
+seen_restarts_nothing (chain_filter e) r = rw (same_refl (key_of r))
 
 -- ---- a record that never stops it
 -- modes 9, B and F hold nothing
@@ -76,22 +76,22 @@ pub never_held : (s : State) (r : List ℕ) → NeverStops s r → (move_in s r)
 unfolding dual_move hit_move seg_move
 never_held (dual last x) r t = refl
 never_held (hit mode x) r t = refl
-never_held (chainAmp e) r t = released _ _ _ _ t
-never_held (chainFilter e) r t = released _ _ _ _ t
+never_held (chain_amp e) r t = released _ _ _ _ t
+never_held (chain_filter e) r t = released _ _ _ _ t
 
 pub never_parked : (s : State) (r : List ℕ) → NeverStops s r → (move_in s r).parked ≡ false
 unfolding dual_move hit_move seg_move
 never_parked (dual last x) r t = refl
 never_parked (hit mode x) r t = ap not (is_true (record_of r).start_cmd t)
-never_parked (chainAmp e) r t = refl
-never_parked (chainFilter e) r t = refl
+never_parked (chain_amp e) r t = refl
+never_parked (chain_filter e) r t = refl
 
 -- its kind stays
 pub never_stops_after : (s : State) (a r : List ℕ) → NeverStops s r → NeverStops (after_in s a) r
 never_stops_after (dual last x) a r t = t
 never_stops_after (hit mode x) a r t = t
-never_stops_after (chainAmp e) a r t = t
-never_stops_after (chainFilter e) a r t = t
+never_stops_after (chain_amp e) a r t = t
+never_stops_after (chain_filter e) a r t = t
 
 -- ---- one tick, and the arrival of an envelope that sees one record again and again
 pub one_tick : (s : State) (r : List ℕ) → (move_in s r).restarted ≡ false → (move_in s r).held ≡ false → (move_in s r).parked ≡ false → level_within (after_in s r) ≡ tick_level (level_within s) (record_of r).target (record_of r).step

@@ -6,7 +6,7 @@ use native.Mathlib.Omega.{arith}
 use mathlib.Core.Path.{◌≡◌, refl, sym, ap, ◌∙◌}
 use mathlib.Core.List.{List, [], ◌∷◌, ◌++◌, map, append-nil}
 use lib.ListN.{get_or, length}
-use Rattle.promise.specs.Levels.{below, Which, pitch, amp, amp2, hat, cymbal, chainAmp, chainFilter, levels, place_of, Osc, dual1, dual2, hatOsc, cymOsc, phases, phase_place}
+use Rattle.promise.specs.Levels.{below, Which, pitch, amp, amp2, hat, cymbal, chain_amp, chain_filter, levels, place_of, Osc, dual1, dual2, hat_osc, cym_osc, phases, phase_place}
 
 -- the numbers from i on, n of them
 pub up_from : ℕ → ℕ → List ℕ
@@ -43,10 +43,10 @@ levels_34 = record { count = refl; has = has; once = refl }
   where
     -- what follows each family
     f6 : List Which
-    f6 = below 8 chainFilter
+    f6 = below 8 chain_filter
 
     f5 : List Which
-    f5 = below 8 chainAmp ++ f6
+    f5 = below 8 chain_amp ++ f6
 
     f4 : List Which
     f4 = below 8 cymbal ++ f5
@@ -72,18 +72,18 @@ levels_34 = record { count = refl; has = has; once = refl }
     has o (amp2 d h) = past o 3 pitch f1 (3 + d) ∙ past o 3 amp f2 d ∙ here o 3 amp2 f3 d h
     has o hat = to3 o 0 ∙ here o 1 (λ i h. hat) f4 0 (zero-lt-suc 0)
     has o (cymbal r h) = to4 o r ∙ here o 8 cymbal f5 r h
-    has o (chainAmp v h) = to4 o (8 + v) ∙ past o 8 cymbal f5 v ∙ here o 8 chainAmp f6 v h
-    has o (chainFilter v h) = to4 o (8 + (8 + v)) ∙ past o 8 cymbal f5 (8 + v) ∙ past o 8 chainAmp f6 v ∙ last o 8 chainFilter v h
+    has o (chain_amp v h) = to4 o (8 + v) ∙ past o 8 cymbal f5 v ∙ here o 8 chain_amp f6 v h
+    has o (chain_filter v h) = to4 o (8 + (8 + v)) ∙ past o 8 cymbal f5 (8 + v) ∙ past o 8 chain_amp f6 v ∙ last o 8 chain_filter v h
 
 pub phases_18 : Counted 18 phases phase_place
 unfolding phases below up_from
 phases_18 = record { count = refl; has = has; once = refl }
   where
     f3 : List Osc
-    f3 = below 6 cymOsc
+    f3 = below 6 cym_osc
 
     f2 : List Osc
-    f2 = below 6 hatOsc ++ f3
+    f2 = below 6 hat_osc ++ f3
 
     f1 : List Osc
     f1 = below 3 dual2 ++ f2
@@ -91,5 +91,5 @@ phases_18 = record { count = refl; has = has; once = refl }
     has : (o a : Osc) → get_or phases (phase_place a) o ≡ a
     has o (dual1 d h) = here o 3 dual1 f1 d h
     has o (dual2 d h) = past o 3 dual1 f1 d ∙ here o 3 dual2 f2 d h
-    has o (hatOsc k h) = past o 3 dual1 f1 (3 + k) ∙ past o 3 dual2 f2 k ∙ here o 6 hatOsc f3 k h
-    has o (cymOsc k h) = past o 3 dual1 f1 (3 + (6 + k)) ∙ past o 3 dual2 f2 (6 + k) ∙ past o 6 hatOsc f3 k ∙ last o 6 cymOsc k h
+    has o (hat_osc k h) = past o 3 dual1 f1 (3 + k) ∙ past o 3 dual2 f2 k ∙ here o 6 hat_osc f3 k h
+    has o (cym_osc k h) = past o 3 dual1 f1 (3 + (6 + k)) ∙ past o 3 dual2 f2 (6 + k) ∙ past o 6 hat_osc f3 k ∙ last o 6 cym_osc k h

@@ -34,7 +34,7 @@ use Rattle.board.specs.declared.Analog.{Analog}
 use Rattle.board.specs.declared.Inputs.{Inputs}
 use Rattle.board.specs.Board.{taken_of, stepped_of}
 use Rattle.promise.specs.Calls.{Call, given_of, taken, next_of}
-use Rattle.promise.specs.Levels.{Which, pitch, amp, amp2, hat, cymbal, chainAmp, chainFilter, state_at, level_at, record_at}
+use Rattle.promise.specs.Levels.{Which, pitch, amp, amp2, hat, cymbal, chain_amp, chain_filter, state_at, level_at, record_at}
 use Rattle.promise.specs.Promise.{move_of}
 use Rattle.promise.proofs.Calls.{stepped_by, Way, took, left, way}
 
@@ -51,8 +51,8 @@ good_levels b g (amp d h) = (g.sources.duals d h).amp
 good_levels b g (amp2 d h) = (g.sources.duals d h).amp2
 good_levels b g hat = g.sources.hat.env
 good_levels b g (cymbal r h) = g.sources.cym.env r h
-good_levels b g (chainAmp v h) = (g.chains v h).amp
-good_levels b g (chainFilter v h) = (g.chains v h).flt
+good_levels b g (chain_amp v h) = (g.chains v h).amp
+good_levels b g (chain_filter v h) = (g.chains v h).flt
 
 -- ---- an accepted step: each voice and chain by its own sample
 record Stepped (b : Analog) (f : List ℕ) (n : Analog) : Type 0 where
@@ -98,8 +98,8 @@ state_after b f n g s (cymbal r h) =
     ap (λ (e : Cym). State.hit (get_or e.mode r 0) (get_or e.env r no_env).level) s.cym.is
     ∙ ap (λ (c : ℕ). State.hit c (get_or (Cym.sample_of f b.cym s.cym.w).cym.env r no_env).level) m.1
     ∙ ap (λ (e : Env). State.hit (mode_of (record_at f (cymbal r h))) e.level) m.0
-state_after b f n g s (chainAmp v h) = ap (λ (e : Chain). State.chainAmp e.amp) (s.chains v h).is
-state_after b f n g s (chainFilter v h) = ap (λ (e : Chain). State.chainFilter e.flt) (s.chains v h).is
+state_after b f n g s (chain_amp v h) = ap (λ (e : Chain). State.chain_amp e.amp) (s.chains v h).is
+state_after b f n g s (chain_filter v h) = ap (λ (e : Chain). State.chain_filter e.flt) (s.chains v h).is
 
 -- ---- one call
 pub call_good : (b : Analog) (k : Call) → Good b → Good (next_of b k)

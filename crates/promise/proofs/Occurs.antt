@@ -25,7 +25,7 @@ use Rattle.envelope.proofs.States.{never_held, never_parked}
 use Rattle.board.specs.declared.Analog.{Analog}
 use Rattle.board.specs.Board.{in_range, all_in_range, input_ok, inputs_ok, refusal_of}
 use Rattle.promise.specs.Calls.{Given, Call, step, taken, next_of}
-use Rattle.promise.specs.Levels.{Which, pitch, amp, amp2, hat, cymbal, chainAmp, chainFilter, offset_at, state_at, level_at, record_at}
+use Rattle.promise.specs.Levels.{Which, pitch, amp, amp2, hat, cymbal, chain_amp, chain_filter, offset_at, state_at, level_at, record_at}
 use Rattle.promise.specs.Promise.{ticks_in, EachAccepted, Continues, Stretched}
 use Rattle.promise.proofs.Kept.{Good, good_levels, call_good, call_state}
 use Rattle.promise.proofs.Run.{run_arrives}
@@ -87,8 +87,8 @@ eighth (amp d h) = record { k = 47 + 4 * d; is = rw (dual_env d h) (omega arith)
 eighth (amp2 d h) = record { k = 48 + 4 * d; is = rw (dual_env d h) (omega arith); inside = omega arith }
 eighth hat = record { k = 61; is = refl; inside = omega arith }
 eighth (cymbal r h) = record { k = 62 + r; is = omega arith; inside = omega arith }
-eighth (chainAmp v h) = record { k = 21 + v; is = omega arith; inside = omega arith }
-eighth (chainFilter v h) = record { k = 37 + v; is = omega arith; inside = omega arith }
+eighth (chain_amp v h) = record { k = 21 + v; is = omega arith; inside = omega arith }
+eighth (chain_filter v h) = record { k = 37 + v; is = omega arith; inside = omega arith }
 
 one : (c : Bool) (t : ℕ) → t < 256 → Given
 one c t h = record { frame = copies 83 (eight c t); bytes = copies_bytes 83 c t h; dac = replicate 16 (pos 0); fx = replicate 24 0; inputs = record { audio = record { l = k0; r = k0 }; ext = record { l = k0; r = k0 } } }
@@ -106,15 +106,15 @@ carries c t h w = let e = eighth w in ap (bytes_at (copies 83 (eight c t))) e.is
 commanded : State → Bool
 commanded (dual last x) = false
 commanded (hit mode x) = true
-commanded (State.chainAmp e) = false
-commanded (State.chainFilter e) = false
+commanded (State.chain_amp e) = false
+commanded (State.chain_filter e) = false
 
 commanded_after : (s : State) (r : List ℕ) → commanded (after_in s r) ≡ commanded s
 unfolding commanded
 commanded_after (dual last x) r = refl
 commanded_after (hit mode x) r = refl
-commanded_after (State.chainAmp e) r = refl
-commanded_after (State.chainFilter e) r = refl
+commanded_after (State.chain_amp e) r = refl
+commanded_after (State.chain_filter e) r = refl
 
 and_false : (a : Bool) → (a && false) ≡ false
 and_false true = refl
@@ -124,15 +124,15 @@ restarts_nothing : (s : State) (t : ℕ) → (move_in s (eight (commanded s) t))
 unfolding commanded dual_move hit_move seg_move seg_starts record_of
 restarts_nothing (dual last x) t = and_false (not (alike 8 (eight false t) last))
 restarts_nothing (hit mode x) t = refl
-restarts_nothing (State.chainAmp e) t = refl
-restarts_nothing (State.chainFilter e) t = and_false (not (same_key (key_of (eight false t)) e.key))
+restarts_nothing (State.chain_amp e) t = refl
+restarts_nothing (State.chain_filter e) t = and_false (not (same_key (key_of (eight false t)) e.key))
 
 stops_nothing : (s : State) (t : ℕ) → NeverStops s (eight (commanded s) t)
 unfolding commanded record_of
 stops_nothing (dual last x) t = tt
 stops_nothing (hit mode x) t = tt
-stops_nothing (State.chainAmp e) t = tt
-stops_nothing (State.chainFilter e) t = tt
+stops_nothing (State.chain_amp e) t = tt
+stops_nothing (State.chain_filter e) t = tt
 
 -- ---- the run
 module _ (w : Which) (c : Bool) (t : ℕ) (h : t < 256) where

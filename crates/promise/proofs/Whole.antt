@@ -17,7 +17,7 @@ use Rattle.vco.proofs.Kept.{turn_below}
 use Rattle.board.specs.declared.Analog.{Analog}
 use Rattle.board.specs.Board.{taken_of, fresh_of}
 use Rattle.promise.specs.Calls.{Call, words_of, reached_of, Reached}
-use Rattle.promise.specs.Levels.{level_at, Osc, dual1, dual2, hatOsc, cymOsc, phase_at}
+use Rattle.promise.specs.Levels.{level_at, Osc, dual1, dual2, hat_osc, cym_osc, phase_at}
 use Rattle.promise.specs.Promise.{EachAccepted, Continues, target_of, Within, PhaseIn, Promise, Beyond, Promised}
 use Rattle.promise.proofs.Kept.{Good, good_levels, call_moves}
 use Rattle.promise.proofs.Start.{fresh_good}
@@ -33,8 +33,8 @@ good_phases : (b : Analog) → Good b → (o : Osc) → PhaseIn o (phase_at b o)
 unfolding taken_of of_bits fits le lt eq
 good_phases b g (dual1 d h) = turn_below _ (g.sources.duals d h).ph1
 good_phases b g (dual2 d h) = turn_below _ (g.sources.duals d h).ph2
-good_phases b g (hatOsc k h) = within _ _ k0 k1 _ (g.sources.hat.ph.each k h) tt
-good_phases b g (cymOsc k h) = within _ _ k0 k1 _ (g.sources.cym.ph.each k h) tt
+good_phases b g (hat_osc k h) = within _ _ k0 k1 _ (g.sources.hat.ph.each k h) tt
+good_phases b g (cym_osc k h) = within _ _ k0 k1 _ (g.sources.cym.ph.each k h) tt
 
 module _ (b : Analog) (g : Good b) (calls : List Call) where
   abbrev at : List Call → Analog

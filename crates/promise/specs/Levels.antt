@@ -23,10 +23,10 @@ pub data Which : Type 0 where
   pitch amp amp2 : (d : ℕ) → d < 3 → Which
   hat : Which
   cymbal : (r : ℕ) → r < 8 → Which
-  chainAmp chainFilter : (v : ℕ) → v < 8 → Which
+  chain_amp chain_filter : (v : ℕ) → v < 8 → Which
 
 unfoldable pub levels : List Which
-levels = below 3 pitch ++ (below 3 amp ++ (below 3 amp2 ++ (below 1 (λ i h. hat) ++ (below 8 cymbal ++ (below 8 chainAmp ++ below 8 chainFilter)))))
+levels = below 3 pitch ++ (below 3 amp ++ (below 3 amp2 ++ (below 1 (λ i h. hat) ++ (below 8 cymbal ++ (below 8 chain_amp ++ below 8 chain_filter)))))
 
 -- where the list has a level
 abbrev pub place_of : Which → ℕ
@@ -35,8 +35,8 @@ place_of (amp d h) = 3 + d
 place_of (amp2 d h) = 3 + (3 + d)
 place_of hat = 3 + (3 + (3 + 0))
 place_of (cymbal r h) = 3 + (3 + (3 + (1 + r)))
-place_of (chainAmp v h) = 3 + (3 + (3 + (1 + (8 + v))))
-place_of (chainFilter v h) = 3 + (3 + (3 + (1 + (8 + (8 + v)))))
+place_of (chain_amp v h) = 3 + (3 + (3 + (1 + (8 + v))))
+place_of (chain_filter v h) = 3 + (3 + (3 + (1 + (8 + (8 + v)))))
 
 -- the envelope of a level, where it lies on the board
 abbrev pub state_at : Analog → Which → State
@@ -45,8 +45,8 @@ state_at b (amp d h) = let e = get_or b.duals d no_dual in State.dual e.last_a e
 state_at b (amp2 d h) = let e = get_or b.duals d no_dual in State.dual e.last_m e.amp2.level
 state_at b hat = State.hit b.hat.mode b.hat.env.level
 state_at b (cymbal r h) = State.hit (get_or b.cym.mode r 0) (get_or b.cym.env r no_env).level
-state_at b (chainAmp v h) = State.chainAmp (get_or b.chains v no_chain).amp
-state_at b (chainFilter v h) = State.chainFilter (get_or b.chains v no_chain).flt
+state_at b (chain_amp v h) = State.chain_amp (get_or b.chains v no_chain).amp
+state_at b (chain_filter v h) = State.chain_filter (get_or b.chains v no_chain).flt
 
 -- where its record stands in the frame
 abbrev pub offset_at : Which → ℕ
@@ -55,8 +55,8 @@ offset_at (amp d h) = (dual_spec d).env + 8 * AMP_REC
 offset_at (amp2 d h) = (dual_spec d).env + 8 * AMP2_REC
 offset_at hat = HAT_ENV
 offset_at (cymbal r h) = CYM_ENV + 8 * r
-offset_at (chainAmp v h) = AMP_ENV + 8 * v
-offset_at (chainFilter v h) = FLT_ENV + 8 * v
+offset_at (chain_amp v h) = AMP_ENV + 8 * v
+offset_at (chain_filter v h) = FLT_ENV + 8 * v
 
 -- the level, its eight bytes, and its move in an accepted step: the one that the definition of the step makes of the board and the bytes
 abbrev pub level_at : Analog → Which → Float
@@ -71,20 +71,20 @@ move_at b f w = move_in (state_at b w) (record_at f w)
 -- "An oscillator phase is a number of the board that one of the two phase rules above advances": two per dual voice, six of the hat, six of the cymbal
 pub data Osc : Type 0 where
   dual1 dual2 : (d : ℕ) → d < 3 → Osc
-  hatOsc cymOsc : (k : ℕ) → k < 6 → Osc
+  hat_osc cym_osc : (k : ℕ) → k < 6 → Osc
 
 unfoldable pub phases : List Osc
-phases = below 3 dual1 ++ (below 3 dual2 ++ (below 6 hatOsc ++ below 6 cymOsc))
+phases = below 3 dual1 ++ (below 3 dual2 ++ (below 6 hat_osc ++ below 6 cym_osc))
 
 abbrev pub phase_place : Osc → ℕ
 phase_place (dual1 d h) = d
 phase_place (dual2 d h) = 3 + d
-phase_place (hatOsc k h) = 3 + (3 + k)
-phase_place (cymOsc k h) = 3 + (3 + (6 + k))
+phase_place (hat_osc k h) = 3 + (3 + k)
+phase_place (cym_osc k h) = 3 + (3 + (6 + k))
 
 -- where it stands on the board
 abbrev pub phase_at : Analog → Osc → Float
 phase_at b (dual1 d h) = (get_or b.duals d no_dual).ph1
 phase_at b (dual2 d h) = (get_or b.duals d no_dual).ph2
-phase_at b (hatOsc k h) = get_or b.hat.ph k nan
-phase_at b (cymOsc k h) = get_or b.cym.ph k nan
+phase_at b (hat_osc k h) = get_or b.hat.ph k nan
+phase_at b (cym_osc k h) = get_or b.cym.ph k nan

@@ -9,7 +9,7 @@ use Rattle.envelope.specs.Levels.{Between, Equal}
 use Rattle.vco.specs.Vco.{BelowOne}
 use Rattle.board.specs.declared.Analog.{Analog}
 use Rattle.promise.specs.Calls.{Given, Call, given_of, taken, words_of, next_of, reached_of}
-use Rattle.promise.specs.Levels.{Which, state_at, level_at, record_at, move_at, Osc, dual1, dual2, hatOsc, cymOsc, phase_at}
+use Rattle.promise.specs.Levels.{Which, state_at, level_at, record_at, move_at, Osc, dual1, dual2, hat_osc, cym_osc, phase_at}
 
 -- ---- the terms
 -- a call of the list, and "A stretch is any run of neighbouring calls of the list"
@@ -69,8 +69,8 @@ pub record Within (lo hi x : Float) : Type 0 where
 abbrev pub PhaseIn : Osc → Float → Type 0
 PhaseIn (dual1 d h) x = BelowOne x
 PhaseIn (dual2 d h) x = BelowOne x
-PhaseIn (hatOsc k h) x = Within k0 k1 x
-PhaseIn (cymOsc k h) x = Within k0 k1 x
+PhaseIn (hat_osc k h) x = Within k0 k1 x
+PhaseIn (cym_osc k h) x = Within k0 k1 x
 
 -- ---- the promise, from board b on, of this list of calls
 pub record Promise (b : Analog) (calls : List Call) : Type 0 where

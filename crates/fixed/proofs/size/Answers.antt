@@ -1,0 +1,18 @@
+-- `fixed::size` meets its contract: the fields are those of proofs/Placed.antt. Assumes nothing.
+use mathlib.Core.Path.{◌∙◌, sym, subst}
+use native.Mathlib.Omega.{arith}
+use lib.Dec.{T}
+use Rattle.fixed.proofs.Placed.{no_nan, tiny_size, told_from}
+use Rattle.fixed.proofs.size.Goals as goal
+
+pub float_to_bits-b : goal.float_to_bits-b
+float_to_bits-b c = no_nan c.args.t c.requires
+
+pub returns-then-x-lt94 : goal.returns-then-x-lt94
+returns-then-x-lt94 c = let s = c in tiny_size s.args.t (subst T (sym c.well_formed.0.1) tt) s.requires c.if-x-lt94.true
+
+pub size_at-requires : goal.size_at-requires
+size_at-requires c = let s = c in (c.if-x-lt94.false, (told_from s.args.t (subst T (sym c.well_formed.0.1) tt) s.requires c.if-x-lt94.false).low, omega arith)
+
+pub returns : goal.returns
+returns c = let s = c in c.size_at.ensures ∙ (told_from s.args.t (subst T (sym c.well_formed.0.1) tt) s.requires c.if-x-lt94.false).size

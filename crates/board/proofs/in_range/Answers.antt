@@ -3,12 +3,8 @@ use mathlib.Core.Path.{ap}
 use mir.Syntax.{w32}
 use mir.ValLaws.{to_z-of_z}
 use Rattle.board.specs.Board.{in_range}
-use Rattle.board.proofs.in_range.Statement.{statement}
-use Rattle.board.proofs.in_range.Tie as tie
+use Rattle.board.proofs.in_range.Goals as goal
 
-returns : tie.Need-returns
+pub returns : goal.returns
 unfolding in_range
 returns c = ap in_range (to_z-of_z w32 c.args.x c.ranges.x)
-
-pub in-range-spec : {M : Type 1} → statement M
-in-range-spec = tie.close (tie.spec returns)

@@ -3,6 +3,7 @@
 #![tactic(auto)]
 
 use recording::Playing;
+use std::io;
 
 // The bit pattern of x; of a value that is no number, that of the plain one.
 fn bits(x: f32) -> u32 {
@@ -12,41 +13,41 @@ fn bits(x: f32) -> u32 {
     f32::to_bits(x)
 }
 
-fn words(rx: [i32; 12]) {
+fn words(rt: &impl Print, rx: [i32; 12]) -> io::Result<()> {
     let mut out = [0u8; 144];
     let n = text::words(&mut out, 0, rx);
-    io::write_all(1, &out[..n]);
+    rt.write_all(&out[..n])
 }
 
 // One step and its line.
-fn answer(p: Playing, rec: &[u8]) -> Playing {
+fn answer(rt: &impl Print, p: Playing, rec: &[u8]) -> io::Result<Playing> {
     let a = recording::next(p, rec);
     let outcome = a.outcome;
     let rx = a.rx;
     let mix = a.mix;
-    io::print_decimal(1, board::number(outcome) as u64);
-    words(rx);
-    io::write_all(1, b" ");
-    io::print_hex(1, bits(mix.l) as u64, 8);
-    io::write_all(1, b" ");
-    io::print_hex(1, bits(mix.r) as u64, 8);
-    io::write_all(1, b"\n");
-    a.playing
+    let number = board::number(outcome);
+    let l = bits(mix.l);
+    let r = bits(mix.r);
+    print!(rt; "{number}")?;
+    words(rt, rx)?;
+    println!(rt; " {l:08x} {r:08x}")?;
+    Ok(a.playing)
 }
 
-fn play(rec: &[u8]) {
+fn play(rt: &impl Print, rec: &[u8]) -> io::Result<()> {
     let o = recording::open(rec);
     let mut p = o.playing;
     let mut left = p.steps;
     while 0 < left {
-        p = answer(p, rec);
+        p = answer(rt, p, rec)?;
         left -= 1;
     }
+    Ok(())
 }
 
-fn main() {
+fn main(rt: HostRuntime) -> io::Result<()> {
     let mut rec = [0u8; 65536];
-    let f = player::fill(0, &mut rec);
+    let f = player::fill(&mut rt.stdin(), &mut rec);
     let n = f.length;
-    play(&rec[..n]);
+    play(&rt, &rec[..n])
 }

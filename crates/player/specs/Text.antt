@@ -1,5 +1,5 @@
 -- The text that a replay prints. Definitions only.
-use Rattle.std.specs.Prelude.{ℕ, zero, suc, Bool, cond, List, [], ◌∷◌, ◌++◌, eqb, ℤ}
+use Rattle.std.specs.Prelude.{ℕ, zero, suc, Bool, cond, List, [], ◌∷◌, ◌++◌, length, take, eqb, ltb, ℤ}
 use Rattle.text.specs.Text.{decimal_of, words_of}
 use Rattle.board.specs.Board.{number_of}
 use Rattle.board.specs.declared.Outcome.{Outcome}
@@ -39,3 +39,7 @@ unfoldable pub text_of : Bool → List ℕ → List ℕ
 text_of longer r =
     cond longer (refusal_line (number_of (long_of r)))
     (cond (eqb (number_of (open_of r).outcome) 0) (lines_of (open_of r).playing.steps (open_of r).playing r) (refusal_line (number_of (open_of r).outcome)))
+
+-- all that is printed for an input of any length: the buffer holds 65,536 bytes of it
+unfoldable pub printed_of : List ℕ → List ℕ
+printed_of input = text_of (ltb 65536 (length input)) (take 65536 input)

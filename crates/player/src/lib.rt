@@ -1,14 +1,16 @@
 // The text of a replay, page by page, and the reading and writing around it.
 #![tactic(auto)]
 
-ghost use Rattle.std.specs.Prelude.{◌≡◌, Bool, ◌++◌, ◌+◌, ◌*◌, ◌≤◌, ◌<◌, length, take};
-ghost use Rattle.io.specs.Counts.{IsPrefixLen};
+ghost use Rattle.std.specs.Prelude.{◌≡◌, ℕ, Bool, false, List, ◌++◌, ◌+◌, ◌*◌, ◌≤◌, ◌<◌, length, take, IfOk, OnOk, IfSome, IsTrue};
+ghost use Rattle.std.specs.Io.KnownBytes.{Appends, Consumes, IsAtEnd, Keeps};
 ghost use Rattle.recording.specs.Play.{next_of};
 ghost use Rattle.recording.specs.Replay.{after_of};
-ghost use Rattle.player.specs.Text.{step_line, line_of, lines_of, refusal_line, long_of, rest_of, text_of};
+ghost use Rattle.player.specs.Text.{step_line, line_of, lines_of, refusal_line, long_of, rest_of, text_of, printed_of};
 
 use board::Outcome;
 use recording::Playing;
+use std::io;
+use std::io::{Read, Write};
 
 // ---- the text
 
@@ -187,26 +189,29 @@ pub struct Filled {
 }
 
 // Reads until the buffer is full or the input ends; a read that fails is told apart from the end.
-pub fn fill(fd: i32, buffer: &mut [u8]) -> Filled
-    ensures { IsPrefixLen result.length buffer.new }
+pub fn fill<R: Read>(input: &mut R, buffer: &mut [u8]) -> Filled
+    ensures in_bounds { result.length ≤ length buffer.new }
+    ensures prefix { result.length ≡ length (take result.length buffer.new) }
+    ensures bytes { Consumes (R.remaining input.old) (R.remaining input.new) (take result.length buffer.new) }
+    ensures end { result.failed ≡ false → result.length < length buffer.new → IsAtEnd (R.remaining input.new) }
 {
     let mut n = 0;
     while n < buffer.len() {
-        let got = libc::read(fd, &mut buffer[n..]);
-        if got < 0 {
-            return Filled {
-                length: n,
-                failed: true,
-            };
+        match input.read(&mut buffer[n..]) {
+            Ok(0) => {
+                return Filled {
+                    length: n,
+                    failed: false,
+                };
+            }
+            Ok(more) => n += more,
+            Err(_) => {
+                return Filled {
+                    length: n,
+                    failed: true,
+                };
+            }
         }
-        let more = io::count(got, &buffer[n..]);
-        if more == 0 {
-            return Filled {
-                length: n,
-                failed: false,
-            };
-        }
-        n += more;
     }
     Filled {
         length: n,
@@ -214,63 +219,78 @@ pub fn fill(fd: i32, buffer: &mut [u8]) -> Filled
     }
 }
 
-// Writes the next page; after one that cannot be written nothing is left.
-fn write_page(s: Rest, rec: &[u8]) -> Rest
+// Writes the next page.
+fn write_page<W: Write>(s: Rest, rec: &[u8], out: &mut W) -> io::Result<Rest>
     requires { 0 < s.left }
-    ensures { result.left < s.left }
+    ensures left_lt_left { IfOk result (λ rest. rest.left < s.left) }
+    ensures written { IfOk result (λ rest. (bytes : List ℕ) × Appends (W.contents out.old) (W.contents out.new) bytes × (bytes ++ rest_of rest.number rest.left rest.playing rec.now ≡ rest_of s.number s.left s.playing rec.now)) }
 {
-    let mut out = [0u8; 16384];
-    let p = page(s, rec, &mut out);
+    let mut buffer = [0u8; 16384];
+    let p = page(s, rec, &mut buffer);
     let n = p.at;
-    let rest = p.rest;
-    if io::write_all(1, &out[..n]) {
-        return rest;
-    }
-    io::write_all(
-        2,
-        b"replay: the output cannot be written; what was written is not whole\n",
-    );
-    let number = rest.number;
-    let playing = rest.playing;
-    Rest {
-        number,
-        left: 0,
-        playing,
-    }
+    out.write_all(&buffer[..n])?;
+    Ok(p.rest)
 }
 
-// Writes what is left, page by page.
-fn write_text(s: Rest, rec: &[u8]) {
+// Writes what is left, page by page, up to a page that cannot be written.
+fn write_text<W: Write>(s: Rest, rec: &[u8], out: &mut W) -> io::Result<()>
+    ensures { OnOk result (Appends (W.contents out.old) (W.contents out.new) (rest_of s.number s.left s.playing rec.now)) }
+{
     let mut rest = s;
     let mut left = s.left;
     while 0 < left {
-        rest = write_page(rest, rec);
+        rest = write_page(rest, rec, out)?;
         left = rest.left;
     }
+    Ok(())
 }
 
-// Reads a recording from `fd` to its end, and writes its text to standard output.
-pub fn play(fd: i32) {
+// Writes the text of a whole input, and a message where that cannot be written; whether it was written.
+fn tell<W: Write, E: Write>(rec: &[u8], longer: bool, out: &mut W, errors: &mut E) -> bool
+    ensures text { IsTrue result → Appends (W.contents out.old) (W.contents out.new) (text_of longer rec.now) }
+    ensures silent { IsTrue result → Keeps (E.contents errors.old) (E.contents errors.new) }
+{
+    match write_text(start(rec, longer), rec, out) {
+        Ok(()) => true,
+        Err(_) => {
+            say(
+                errors,
+                b"replay: the output cannot be written; what was written is not whole\n",
+            );
+            false
+        }
+    }
+}
+
+// Reads a recording to its end, and writes its text; a message where that cannot be done, and whether it was.
+pub fn play<R: Read, W: Write, E: Write>(input: &mut R, out: &mut W, errors: &mut E) -> bool
+    ensures text { IsTrue result → IfSome (R.remaining input.old) (λ bytes. Appends (W.contents out.old) (W.contents out.new) (printed_of bytes)) }
+    ensures silent { IsTrue result → Keeps (E.contents errors.old) (E.contents errors.new) }
+{
     let mut rec = [0u8; 65536];
-    let a = fill(fd, &mut rec);
+    let a = fill(input, &mut rec);
     let n = a.length;
     if a.failed {
-        unread();
-        return;
+        unread(errors);
+        return false;
     }
     if n < 65536 {
-        write_text(start(&rec[..n], false), &rec[..n]);
-        return;
+        return tell(&rec[..n], false, out, errors);
     }
     let mut next = [0u8; 1];
-    let b = fill(fd, &mut next);
+    let b = fill(input, &mut next);
     if b.failed {
-        unread();
-        return;
+        unread(errors);
+        return false;
     }
-    write_text(start(&rec, 0 < b.length), &rec);
+    tell(&rec, 0 < b.length, out, errors)
 }
 
-fn unread() {
-    io::write_all(2, b"replay: the input cannot be read\n");
+fn unread<E: Write>(errors: &mut E) {
+    say(errors, b"replay: the input cannot be read\n");
+}
+
+// A message that cannot be written is lost.
+fn say<E: Write>(errors: &mut E, message: &[u8]) {
+    let _ = errors.write_all(message);
 }

@@ -1,27 +1,34 @@
 // `replay` on each recording of data/, after a line with its name.
 #![tactic(auto)]
 
-fn play(name: &[u8]) {
-    io::write_all(1, name);
-    io::write_all(1, b"\n");
-    let fd = os::open_read(name);
-    if fd < 0 {
-        os::fail(name);
-        return;
+use std::fs::File;
+use std::io;
+
+// What cannot be written to standard output is said by `player`.
+fn play(rt: &HostRuntime, name: &str) -> io::Result<()> {
+    let _ = println!(rt; "{name}");
+    match File::open(rt, name) {
+        Ok(mut file) => {
+            player::play(&mut file, &mut rt.stdout(), &mut rt.stderr());
+        }
+        Err(e) => {
+            let text = format!(in rt.alloc(); "{e}")?;
+            let why = text.split(" (os error ").next().unwrap_or("");
+            let _ = eprintln!(rt; "{name}: {why}");
+        }
     }
-    player::play(fd);
-    libc::close(fd);
+    Ok(())
 }
 
-fn main() {
+fn main(rt: HostRuntime) -> io::Result<()> {
     // refused steps among accepted ones
-    play(b"refused_steps.rec");
+    play(&rt, "refused_steps.rec")?;
     // a bad opening, and a wrong length too
-    play(b"opening.rec");
+    play(&rt, "opening.rec")?;
     // a wrong length, and an entry that names no body too
-    play(b"length.rec");
+    play(&rt, "length.rec")?;
     // an entry equal to the number of bodies
-    play(b"entry.rec");
+    play(&rt, "entry.rec")?;
     // as long as its opening says, and more than 65,536 bytes
-    play(b"long.rec");
+    play(&rt, "long.rec")
 }

@@ -2,3 +2,4 @@
 pub mod Joined
 pub mod Steps
 pub mod Whole
+pub mod Input

@@ -1,4 +1,5 @@
 -- `fixed::size` meets its contract: the fields are those of proofs/Placed.antt. Assumes nothing.
+-- What owning an `f32` tells, that the format holds it, is `c.well_formed`.
 use mathlib.Core.Path.{◌∙◌, sym, subst}
 use native.Mathlib.Omega.{arith}
 use lib.Dec.{T}

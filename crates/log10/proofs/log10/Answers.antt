@@ -1,4 +1,5 @@
 -- `log10::log10` meets its contract: each answer is its definition's, whose distance is `log10_near`. Assumes nothing.
+-- What owning an `f32` tells, that the format holds it, is `c.well_formed`.
 use mathlib.Core.Path.{◌≡◌, sym, ◌∙◌, subst}
 use mathlib.Core.Bool.{false, not}
 use Prim.Native.Nat.{◌/◌, ◌%◌}

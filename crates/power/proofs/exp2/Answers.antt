@@ -39,6 +39,7 @@ pub returns-then-t-3 : goal.returns-then-t-3
 unfolding of_bits neg
 returns-then-t-3 c = let t = c.args.t in let b = both t _ (sym ((exp2_near t).low (on c.if-t-3.true))) in record { is = b.0; near = b.1 }
 
+-- a number outside, and not below, is above
 pub returns : goal.returns
 unfolding of_bits div neg
 returns c =

@@ -17,6 +17,7 @@ use Rattle.power.proofs.pow10.Goals as goal
 both : (t r : Float) → r ≡ pow10_of t → (r ≡ pow10_of t) × Pow10Near t r
 both t r e = (e, subst (Pow10Near t) (sym e) (pow10_near t))
 
+-- 128 ± u stays in the range of `power`
 between : (s : Bool) (u : ℕ) → u ≤ 541165879296 → (8589934592 ≤ shifted s u 4294967296) × (shifted s u 4294967296 < 1095216660480)
 between true u h = (omega arith, omega arith)
 between false u h = (omega arith, omega arith)
@@ -67,6 +68,7 @@ pub returns-then-x-3 : goal.returns-then-x-3
 unfolding of_bits neg
 returns-then-x-3 c = let t = c.args.x in let b = both t _ (sym ((pow10_near t).low (on c.if-x-3.true))) in record { is = b.0; near = b.1 }
 
+-- a number outside, and not below, is above
 pub returns : goal.returns
 unfolding of_bits div neg
 returns c =

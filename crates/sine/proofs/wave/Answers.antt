@@ -10,6 +10,7 @@ use Rattle.sine.specs.Sine.{sine_fix, quarter31, signed, wave_of}
 use Rattle.sine.proofs.Sign.{Turned, turned, pack_fits}
 use Rattle.sine.proofs.wave.Goals as goal
 
+-- what whole quarter turns leave
 left : (x : ℕ) → x - x / quarter31 * quarter31 ≡ x % quarter31
 left x = omega arith
 

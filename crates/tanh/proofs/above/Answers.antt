@@ -19,6 +19,7 @@ pub returns-then-a-2 : goal.returns-then-a-2
 unfolding above_of of_bits
 returns-then-a-2 c = let a = c.args.a in rw (is_false (lt a tiny) (off c.if-a.false), is_true (le ten a) (on c.if-a-2.true))
 
+-- past both tests the argument lies between 2 ^ -10 and 10
 pub size-requires : goal.size-requires
 unfolding of_bits
 size-requires c =

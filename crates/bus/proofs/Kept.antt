@@ -53,6 +53,6 @@ words_zero zero k = lit≤ tt
 words_zero (suc n) zero = lit≤ tt
 words_zero (suc n) (suc k) = words_zero n k
 
-pub voices_in_lem : (f : List ℕ) (dac : List ℤ) (src : List Float) (chains : List Chain) → Words (voices_of f dac src chains).rx
+pub voices_in : (f : List ℕ) (dac : List ℤ) (src : List Float) (chains : List Chain) → Words (voices_of f dac src chains).rx
 unfolding voices_of turn_of
-voices_in_lem f dac src chains = turns_keep (λ (b : Bus). Words b.rx) 8 (turn_of f dac src) _ (λ v b l a. words_set b.rx v _ a) (words_zero 12)
+voices_in f dac src chains = turns_keep (λ (b : Bus). Words b.rx) 8 (turn_of f dac src) _ (λ v b l a. words_set b.rx v _ a) (words_zero 12)

@@ -8,7 +8,7 @@ use Rattle.float.specs.Ops.{◌⊗◌}
 use Rattle.float.specs.Floats.{to24_of}
 use Rattle.sources.specs.Sources.{sound_of}
 use Rattle.bus.specs.Bus.{voices_of, master_of}
-use Rattle.bus.proofs.Kept.{Words, words_set, words_zero, voices_in_lem}
+use Rattle.bus.proofs.Kept.{Words, words_set, words_zero, voices_in}
 use Rattle.stereo.specs.declared.Mix.{Mix}
 use Rattle.comp.specs.Comp.{process_of}
 use Rattle.board.specs.declared.Analog.{Analog}
@@ -31,7 +31,7 @@ answered_words true o b g =
     let s = sound_of g.frame g.dac (taken_of b) in
     let v = voices_of g.frame g.dac s.src b.chains in
     let m = master_of g.frame g.dac v.mix g.inputs.ext in
-    set_words v.rx g.inputs.audio (process_of g.fx m.l m.r b.comp).mix (voices_in_lem g.frame g.dac s.src b.chains)
+    set_words v.rx g.inputs.audio (process_of g.fx m.l m.r b.comp).mix (voices_in g.frame g.dac s.src b.chains)
 answered_words false o b g = words_zero 12
 
 pub words_in : (b : Analog) (k : Call) → Words (words_of b k)

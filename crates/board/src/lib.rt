@@ -127,6 +127,7 @@ fn inputs_ok(x: Inputs) -> bool
 }
 
 // The lowest that applies.
+#[tactic(auto, unfolding(crate::specs::Board::refusal_of))]
 pub fn refusal(f: &[u8], dac: &[i32], fx: &[u8], x: Inputs) -> Outcome
     ensures { result ≡ refusal_of f.now dac.now fx.now x }
 {

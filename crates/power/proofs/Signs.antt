@@ -1,4 +1,4 @@
--- The exact two-power of ± a / c is twoAt at ± a / c + 128, over 2 ^ 128. Assumes nothing.
+-- The exact two-power of ± a / c is two_at at ± a / c + 128, over 2 ^ 128. Assumes nothing.
 use mathlib.Core.Path.{◌≡◌, ap, ◌∙◌}
 use mathlib.Core.Bool.{Bool, true, false}
 use Prim.Native.Nat.{ℕ, ◌+◌, ◌-◌, ◌*◌, ◌/◌, ◌%◌, ◌^◌, ◌≤◌, ◌<◌}

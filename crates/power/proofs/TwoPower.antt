@@ -14,7 +14,7 @@ use Rattle.series.proofs.Tail.{addition}
 use Rattle.power.specs.Exact.{sum_num, sum_den}
 use Rattle.power.proofs.Numbers.{L, M}
 
--- two to the power A / c is twoAt c A / sumDen c
+-- two to the power A / c is two_at c A / sum_den c
 unfoldable pub two_at : ℕ → ℕ → ℕ
 two_at c A = 2 ^ (A / c) * sum_num (A % c) c
 

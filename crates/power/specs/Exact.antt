@@ -2,7 +2,7 @@
 use Rattle.std.specs.Prelude.{Bool, true, false, ℕ, ◌+◌, ◌-◌, ◌*◌, ◌/◌, ◌%◌, ◌^◌}
 use Rattle.series.specs.Exponential.{exp_num, exp_den}
 
--- the sum, j from 0 to 11, of (p / c * ln 2) ^ j / j! is sumNum p c / sumDen c, for a p below c
+-- the sum, j from 0 to 11, of (p / c * ln 2) ^ j / j! is sum_num p c / sum_den c, for a p below c
 unfoldable pub sum_num : ℕ → ℕ → ℕ
 sum_num p c = exp_num 11 (p * 69314718055995) (c * 10 ^ 14)
 

@@ -13,7 +13,7 @@ unfoldable pub rise : ℕ → ℕ → ℕ → ℕ
 rise z j zero = 1
 rise z j (suc k) = suc j * z * rise z (suc j) k
 
--- x ^ j / j! of z, times expDen M z, for j ≤ M
+-- x ^ j / j! of z, times exp_den M z, for j ≤ M
 unfoldable pub term : ℕ → ℕ → ℕ → ℕ → ℕ
 term M z x j = x ^ j * rise z j (M - j)
 

@@ -46,7 +46,7 @@ unfolding hom snoc
 hom_snoc p c b [] = snoc_base b p c
 hom_snoc p c b (a ∷ l) = rw (length_snoc l b, hom_snoc p c b l, pow-suc c (length l), pow-suc p (length l)) (snoc_step a b c p (c ^ length l) (p ^ length l) (hom l p c))
 
--- the coefficients of (p / c) ^ j, over expDen n M, where the argument is p * L / (c * M)
+-- the coefficients of (p / c) ^ j, over exp_den n M, where the argument is p * L / (c * M)
 unfoldable pub cs : ℕ → ℕ → ℕ → List ℕ
 cs L M zero = 1 ∷ []
 cs L M (suc n) = snoc (scale (suc n * M) (cs L M n)) (L ^ suc n)

@@ -1,7 +1,7 @@
 -- The truncated exponential as a fraction. Assumes nothing.
 use Rattle.std.specs.Prelude.{ℕ, zero, suc, ◌+◌, ◌*◌, ◌^◌}
 
--- the sum, j from 0 to n, of (x / z) ^ j / j! is expNum n x z / expDen n z
+-- the sum, j from 0 to n, of (x / z) ^ j / j! is exp_num n x z / exp_den n z
 unfoldable pub exp_num : ℕ → ℕ → ℕ → ℕ
 exp_num zero x z = 1
 exp_num (suc n) x z = exp_num n x z * (suc n * z) + x ^ suc n

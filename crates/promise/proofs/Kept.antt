@@ -10,7 +10,6 @@ use Rattle.frame.specs.Frame.{Bytes}
 use Rattle.envelope.specs.declared.Env.{Env}
 use Rattle.envelope.specs.Record.{mode_of}
 use Rattle.envelope.specs.Moves.{settle, dual_of, hit_of}
-use Rattle.envelope.specs.States as State
 use Rattle.envelope.specs.States.{State, level_within, after_in}
 use Rattle.envelope.specs.Levels.{Level}
 use Rattle.envelope.proofs.States.{level_after}

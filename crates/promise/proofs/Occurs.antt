@@ -17,7 +17,6 @@ use Rattle.frame.specs.Offsets.{duals, dual_spec}
 use Rattle.envelope.specs.Record.{record_of, level_of}
 use Rattle.envelope.specs.Moves.{alike, key_of, same_key, dual_move, hit_move, seg_move, seg_starts}
 use Rattle.envelope.specs.States.{State, dual, hit, move_in, after_in, NeverStops}
-use Rattle.envelope.specs.States as State
 use Rattle.envelope.specs.Levels.{Level, Equal}
 use Rattle.envelope.proofs.Ranges.{level_in}
 use Rattle.envelope.proofs.Arrive.{level_at_lem, in_order, ordered}

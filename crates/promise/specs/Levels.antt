@@ -6,7 +6,6 @@ use Rattle.std.specs.Float.{nan}
 use Rattle.frame.specs.Frame.{bytes_at}
 use Rattle.frame.specs.Offsets.{AMP_ENV, FLT_ENV, HAT_ENV, CYM_ENV, PITCH_REC, AMP_REC, AMP2_REC, dual_spec}
 use Rattle.envelope.specs.Moves.{Move}
-use Rattle.envelope.specs.States as State
 use Rattle.envelope.specs.States.{State, level_within, move_in}
 use Rattle.cym.specs.Cym.{no_env}
 use Rattle.sources.specs.Sources.{no_dual}

@@ -13,7 +13,6 @@ use Rattle.wobble.proofs.Kept.{WobbleIn}
 use Rattle.dual.specs.declared.DualOsc.{DualOsc}
 use Rattle.dual.specs.Dual as Dual
 use Rattle.dual.proofs.Kept.{DualIn, dual_in}
-use Rattle.tom.specs.Tom as Tom
 use Rattle.tom.proofs.Kept.{tom_in}
 use Rattle.hat.specs.declared.Hat.{Hat}
 use Rattle.hat.specs.Hat as Hat

@@ -1,5 +1,4 @@
 -- `cym::envs` meets its contract. The loop's invariant: the state is that after r turns. Assumes nothing.
-use Prim.Native.Nat.{◌-◌}
 use mathlib.Core.Path.{◌≡◌, refl}
 use native.Mathlib.Numerals.{add-one}
 use native.Mathlib.Omega.{arith}

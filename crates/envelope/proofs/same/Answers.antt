@@ -1,5 +1,4 @@
 -- `envelope::same` meets its contract. The loop's invariant: the bytes passed are alike. Assumes nothing.
-use Prim.Native.Nat.{◌-◌}
 use mathlib.Core.Path.{◌≡◌, refl}
 use native.Mathlib.Numerals.{add-one}
 use native.Mathlib.Omega.{arith}

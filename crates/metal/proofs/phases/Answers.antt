@@ -1,5 +1,4 @@
 -- `metal::phases` meets its contract. The loop's invariant: the state is that after k turns. Assumes nothing.
-use Prim.Native.Nat.{◌-◌}
 use mathlib.Core.Path.{◌≡◌, refl}
 use native.Mathlib.Numerals.{add-one}
 use native.Mathlib.Omega.{arith}

@@ -1,5 +1,4 @@
 -- `metal::run` meets its contract. The loop's invariant: the bank is that after k turns, and at most k of it run. Assumes nothing.
-use Prim.Native.Nat.{◌-◌}
 use mathlib.Core.Path.{◌≡◌, refl}
 use native.Mathlib.Numerals.{add-one}
 use native.Mathlib.Omega.{arith}

@@ -1,5 +1,5 @@
 -- `player::lines` meets its contract. The loop's invariant: what is put and the lines of the steps left make the whole text, and the steps left lead to the same place. Assumes nothing.
-use Prim.Native.Nat.{ℕ, ◌+◌, ◌-◌}
+use Prim.Native.Nat.{ℕ, ◌-◌}
 use mathlib.Core.Path.{◌≡◌, refl, sym, ap, ◌∙◌}
 use mathlib.Core.List.{List, ◌++◌, append-nil, append_assoc}
 use native.Mathlib.Omega.{arith}

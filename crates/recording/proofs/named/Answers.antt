@@ -1,5 +1,4 @@
 -- `recording::named` meets its contract. The loop's invariant: the entries passed each name a body. Assumes nothing.
-use Prim.Native.Nat.{◌-◌}
 use mathlib.Core.Path.{◌≡◌, refl}
 use native.Mathlib.Numerals.{add-one}
 use native.Mathlib.Omega.{arith}

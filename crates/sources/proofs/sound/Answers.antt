@@ -1,5 +1,4 @@
 -- `sources::sound` meets its contract: cymbal and hat after what the two loops leave. A loop's invariant: the state is that after d, or t, turns. Assumes nothing.
-use Prim.Native.Nat.{◌-◌}
 use mathlib.Core.Path.{◌≡◌, refl}
 use native.Mathlib.Numerals.{add-one}
 use native.Mathlib.Omega.{arith}

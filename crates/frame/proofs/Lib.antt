@@ -1,4 +1,3 @@
 -- Laws of `frame`.
-pub mod Joined
 pub mod Tables
 pub mod Sizes

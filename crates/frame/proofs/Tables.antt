@@ -1,36 +1,24 @@
 -- Every entry of a table of offsets lies within the shortest frame: a test of each table that is computed, and one law that carries it to the entry. Assumes nothing.
-use mathlib.Core.Bool.{Bool, true, false, ◌&&◌}
-use mathlib.Core.List.{List, [], ◌∷◌}
-use Prim.Native.Nat.{ℕ, zero, suc, ◌+◌, ◌≤◌, ◌<◌, min}
-use native.Mathlib.Nat.{le_of_suc-le-suc}
+use mathlib.Core.Bool.{Bool, false, ◌&&◌}
+use mathlib.Core.List.{List, []}
+use Prim.Native.Nat.{ℕ, suc, ◌+◌, ◌≤◌, ◌<◌, min}
 use native.Mathlib.Omega.{arith}
 use lib.Dec.{T, leb, ltb, leb→le, ltb→lt}
 use lib.ListN.{length, get_or}
 use lib.Ieee.Fits.{and_l, and_r}
+use Rattle.lists.proofs.Table.{every, at}
 use Rattle.frame.specs.declared.DualSpec.{DualSpec}
 use Rattle.frame.specs.declared.TomSpec.{TomSpec}
 use Rattle.frame.specs.declared.CymPath.{CymPath}
 use Rattle.frame.specs.declared.FltAt.{FltAt}
 use Rattle.frame.specs.Offsets.{FRAME_BYTES, SWITCHES, duals, dual_spec, toms, tom_spec, cym_paths, cym_path, flt_type_at, flt_at, route_bits, route_bit}
 
-abbrev pub every : {A : Type 0} → (A → Bool) → List A → Bool
-every p [] = true
-every p (x ∷ xs) = p x && every p xs
-
-pub every_at : {A : Type 0} (p : A → Bool) (xs : List A) (d : A) → T (every p xs) → (i : ℕ) → i < length xs → T (p (get_or xs i d))
-every_at p [] d t i h = absurd (none i h)
-  where
-    none : (i : ℕ) → i < 0 → ⊥
-    none i h = omega arith
-every_at p (x ∷ xs) d t zero h = and_l (p x) (every p xs) t
-every_at p (x ∷ xs) d t (suc i) h = every_at p xs d (and_r (p x) (every p xs) t) i (le_of_suc-le-suc h)
-
 capped : (i n : ℕ) → min i n < suc n
 capped i n = omega arith
 
 -- ---- a dual voice: four words, four records, seven of the 64 switches
 abbrev switches : List ℕ → Bool
-switches sw = every (λ n. ltb n 64) sw
+switches sw = every (λ _ n. ltb n 64) 0 sw
 
 abbrev dual_inside : DualSpec → Bool
 dual_inside s = leb (s.cv + 8) FRAME_BYTES && (leb (s.env + 32) FRAME_BYTES && (ltb s.voice 8 && (switches s.sw && leb 7 (length s.sw))))
@@ -45,7 +33,7 @@ pub dual_inside_lem : (d : ℕ) → DualInside (dual_spec d)
 dual_inside_lem d = says (dual_spec d) tested
   where
     tested : T (dual_inside (dual_spec d))
-    tested = unfold dual_spec duals in every_at dual_inside duals (record { voice = 0; cv = 0; env = 0; sw = [] }) tt (min d 2) (capped d 2)
+    tested = unfold dual_spec duals in at (record { voice = 0; cv = 0; env = 0; sw = [] }) (λ _. dual_inside) duals tt (min d 2) (capped d 2)
 
     says : (s : DualSpec) → T (dual_inside s) → DualInside s
     says s t =
@@ -62,7 +50,7 @@ dual_inside_lem d = says (dual_spec d) tested
           cv = leb→le (s.cv + 8) FRAME_BYTES (and_l a (b && (c && (e && n))) t);
           env = leb→le (s.env + 32) FRAME_BYTES (and_l b (c && (e && n)) t1);
           voice = ltb→lt s.voice 8 (and_l c (e && n) t2);
-          sw = λ k h. ltb→lt (get_or s.sw k 0) 64 (every_at (λ n. ltb n 64) s.sw 0 (and_l e n t3) k (omega arith));
+          sw = λ k h. ltb→lt (get_or s.sw k 0) 64 (at 0 (λ _ n. ltb n 64) s.sw (and_l e n t3) k (omega arith));
         }
 
 -- ---- a tom: two words, one of sixteen DAC words
@@ -79,7 +67,7 @@ pub tom_inside_lem : (t : ℕ) → TomInside (tom_spec t)
 tom_inside_lem t = says (tom_spec t) tested
   where
     tested : T (tom_inside (tom_spec t))
-    tested = unfold tom_spec toms in every_at tom_inside toms (record { voice = 0; tune = 0; decay = 0; dac = 0 }) tt (min t 2) (capped t 2)
+    tested = unfold tom_spec toms in at (record { voice = 0; tune = 0; decay = 0; dac = 0 }) (λ _. tom_inside) toms tt (min t 2) (capped t 2)
 
     says : (s : TomSpec) → T (tom_inside s) → TomInside s
     says s t =
@@ -101,7 +89,7 @@ pub cym_inside : (p : ℕ) → (cym_path p).rec < 8
 cym_inside p = ltb→lt (cym_path p).rec 8 tested
   where
     tested : T (ltb (cym_path p).rec 8)
-    tested = unfold cym_path cym_paths in every_at (λ (c : CymPath). ltb c.rec 8) cym_paths (record { rec = 0; hz = lib.Ieee.nan; high = false }) tt (min p 4) (capped p 4)
+    tested = unfold cym_path cym_paths in at (record { rec = 0; hz = lib.Ieee.nan; high = false }) (λ _ (c : CymPath). ltb c.rec 8) cym_paths tt (min p 4) (capped p 4)
 
 -- ---- a filter type: a switch byte, three of its bits
 abbrev flt_inside : FltAt → Bool
@@ -115,11 +103,11 @@ pub flt_inside_lem : (v : ℕ) → FltInside (flt_at v)
 flt_inside_lem v = record { byte = ltb→lt (flt_at v).byte (SWITCHES + 8) (and_l (ltb (flt_at v).byte (SWITCHES + 8)) (ltb (flt_at v).lo 6) tested); lo = ltb→lt (flt_at v).lo 6 (and_r (ltb (flt_at v).byte (SWITCHES + 8)) (ltb (flt_at v).lo 6) tested) }
   where
     tested : T (flt_inside (flt_at v))
-    tested = unfold flt_at flt_type_at in every_at flt_inside flt_type_at (record { byte = 0; lo = 0 }) tt (min v 7) (capped v 7)
+    tested = unfold flt_at flt_type_at in at (record { byte = 0; lo = 0 }) (λ _. flt_inside) flt_type_at tt (min v 7) (capped v 7)
 
 -- ---- a bit of the route mask
 pub route_inside : (v : ℕ) → route_bit v < 8
 route_inside v = ltb→lt (route_bit v) 8 tested
   where
     tested : T (ltb (route_bit v) 8)
-    tested = unfold route_bit route_bits in every_at (λ n. ltb n 8) route_bits 0 tt (min v 7) (capped v 7)
+    tested = unfold route_bit route_bits in at 0 (λ _ n. ltb n 8) route_bits tt (min v 7) (capped v 7)

@@ -1,14 +1,24 @@
 // Fields of the control frame: words, switches, the route mask, filter codes, a record's bytes, and where each voice has its own.
 #![tactic(auto)]
 
-ghost use Rattle.std.specs.Prelude.{◌≡◌, ◌+◌, ◌*◌, ◌/◌, ◌<◌, ◌≤◌, length};
+ghost use Rattle.std.specs.Prelude.{◌≡◌, ◌+◌, ◌/◌, ◌<◌, ◌≤◌, length};
 ghost use Rattle.frame.specs.Frame.{word_at, word_f, signed_of, signed_f, bit_at, field_at, bytes_at, routed_off, flt_code, flt_type_of};
-ghost use Rattle.frame.specs.Offsets.{FRAME_BYTES, SWITCHES, dual_spec, tom_spec, cym_path, flt_at, route_bit};
+ghost use Rattle.frame.specs.Offsets.{SWITCHES, dual_spec, tom_spec, cym_path, flt_at, route_bit};
+
+use slices::AtLeast;
+use std::array;
 
 // Where the frame has its fields, under the source's names. A voice v has its word at 2 * v and its record at 8 * v from there.
 
 // What a step reads of a frame: the last field is the cymbal's bank.
 pub const FRAME_BYTES: usize = 664;
+
+// A frame that has all of it.
+pub type Frame<'a> = AtLeast<'a, u8, FRAME_BYTES>;
+
+// The DAC words of a step: all sixteen.
+pub type DacWords<'a> = AtLeast<'a, i32, 16>;
+
 // The amount of the master distortion.
 pub const DIST: usize = 0;
 // The voices' VCA words, left and right.
@@ -68,7 +78,7 @@ pub struct DualSpec {
     pub sw: [usize; 7],
 }
 
-const DUALS: [DualSpec; 3] = [
+static DUALS: [DualSpec; 3] = [
     DualSpec {
         voice: 0,
         cv: 90,
@@ -98,7 +108,7 @@ pub struct TomSpec {
     pub dac: usize,
 }
 
-const TOMS: [TomSpec; 3] = [
+static TOMS: [TomSpec; 3] = [
     TomSpec {
         voice: 1,
         tune: 118,
@@ -127,7 +137,7 @@ pub struct CymPath {
     pub high: bool,
 }
 
-const CYM_PATHS: [CymPath; 5] = [
+static CYM_PATHS: [CymPath; 5] = [
     CymPath {
         rec: 2,
         hz: 3400.0,
@@ -162,7 +172,7 @@ pub struct FltAt {
     pub lo: u8,
 }
 
-const FLT_TYPE_AT: [FltAt; 8] = [
+static FLT_TYPE_AT: [FltAt; 8] = [
     FltAt { byte: 161, lo: 1 },
     FltAt { byte: 161, lo: 5 },
     FltAt { byte: 164, lo: 5 },
@@ -173,93 +183,53 @@ const FLT_TYPE_AT: [FltAt; 8] = [
     FltAt { byte: 163, lo: 1 },
 ];
 
-const ROUTE_BIT: [u8; 8] = [3, 2, 1, 0, 4, 5, 6, 7];
+static ROUTE_BIT: [u8; 8] = [3, 2, 1, 0, 4, 5, 6, 7];
 
-// An entry is read by its number written out: an index that is not known copies the array.
+// A row of a table, and past its end the last: one expression each, which a function over any table would only rename.
 
 // BD, SD, and RS from 2 on.
+#[tactic(auto, unfolding(crate::specs::Offsets::dual_spec, crate::specs::Offsets::duals))]
 pub fn dual_spec(d: usize) -> DualSpec
     ensures { result ≡ dual_spec d }
 {
-    match d {
-        0 => DUALS[0],
-        1 => DUALS[1],
-        _ => DUALS[2],
-    }
+    DUALS[d.min(2)]
 }
 
 // BT, LT, and MT/HT from 2 on.
+#[tactic(auto, unfolding(crate::specs::Offsets::tom_spec, crate::specs::Offsets::toms))]
 pub fn tom_spec(t: usize) -> TomSpec
     ensures { result ≡ tom_spec t }
 {
-    match t {
-        0 => TOMS[0],
-        1 => TOMS[1],
-        _ => TOMS[2],
-    }
+    TOMS[t.min(2)]
 }
 
+#[tactic(auto, unfolding(crate::specs::Offsets::cym_path, crate::specs::Offsets::cym_paths))]
 pub fn cym_path(p: usize) -> CymPath
     ensures { result ≡ cym_path p }
 {
-    match p {
-        0 => CYM_PATHS[0],
-        1 => CYM_PATHS[1],
-        2 => CYM_PATHS[2],
-        3 => CYM_PATHS[3],
-        _ => CYM_PATHS[4],
-    }
+    CYM_PATHS[p.min(4)]
 }
 
+#[tactic(auto, unfolding(crate::specs::Offsets::flt_at, crate::specs::Offsets::flt_type_at))]
 fn flt_at(v: usize) -> FltAt
     ensures { result ≡ flt_at v }
 {
-    match v {
-        0 => FLT_TYPE_AT[0],
-        1 => FLT_TYPE_AT[1],
-        2 => FLT_TYPE_AT[2],
-        3 => FLT_TYPE_AT[3],
-        4 => FLT_TYPE_AT[4],
-        5 => FLT_TYPE_AT[5],
-        6 => FLT_TYPE_AT[6],
-        _ => FLT_TYPE_AT[7],
-    }
+    FLT_TYPE_AT[v.min(7)]
 }
 
+#[tactic(auto, unfolding(crate::specs::Offsets::route_bit, crate::specs::Offsets::route_bits))]
 fn route_bit(v: usize) -> u8
     ensures { result ≡ route_bit v }
 {
-    match v {
-        0 => ROUTE_BIT[0],
-        1 => ROUTE_BIT[1],
-        2 => ROUTE_BIT[2],
-        3 => ROUTE_BIT[3],
-        4 => ROUTE_BIT[4],
-        5 => ROUTE_BIT[5],
-        6 => ROUTE_BIT[6],
-        _ => ROUTE_BIT[7],
-    }
+    ROUTE_BIT[v.min(7)]
 }
 
-// Bytes joined, the highest first.
-pub fn be16(a: u8, b: u8) -> u16
-    ensures { result ≡ a * 256 + b }
-{
-    ((a as u16) << 8) | (b as u16)
-}
-
-pub fn be24(a: u8, b: u8, c: u8) -> u32
-    ensures { result ≡ a * 65536 + b * 256 + c }
-{
-    ((a as u32) << 16) | ((b as u32) << 8) | (c as u32)
-}
-
-// The word at `o`.
+// The word at `o`. This and the readers below take any bytes and ask for as many as each reads: two, four or eight.
 pub fn word(f: &[u8], o: usize) -> u16
     requires { o + 2 ≤ length f.now }
     ensures { result ≡ word_at f.now o }
 {
-    be16(f[o], f[o + 1])
+    u16::from_be_bytes([f[o], f[o + 1]])
 }
 
 // `word(f, o) as f32`.
@@ -274,11 +244,7 @@ pub fn word_f32(f: &[u8], o: usize) -> f32
 pub fn signed(w: u16) -> i16
     ensures { result ≡ signed_of w }
 {
-    if w < 32768 {
-        w as i16
-    } else {
-        ((w - 32768) as i16) + (-32768)
-    }
+    w.cast_signed()
 }
 
 // `word(f, o) as i16 as f32`.
@@ -294,10 +260,8 @@ pub fn bit(f: &[u8], n: usize) -> bool
     requires { SWITCHES + n / 8 < length f.now }
     ensures { result ≡ bit_at f.now n }
 {
-    let k = SWITCHES + (n >> 3);
-    let b = f[k];
-    let s = (n & 7) as u8;
-    (b >> s) & 1 != 0
+    let b = f[SWITCHES + (n >> 3)];
+    (b >> (n & 7)) & 1 != 0
 }
 
 // The low 22 bits of the 32-bit field at `o`: a metal oscillator's frequency.
@@ -305,44 +269,35 @@ pub fn field(f: &[u8], o: usize) -> u32
     requires { o + 4 ≤ length f.now }
     ensures { result ≡ field_at f.now o }
 {
-    be24(f[o + 1] & 63, f[o + 2], f[o + 3])
+    u32::from_be_bytes([0, f[o + 1] & 63, f[o + 2], f[o + 3]])
 }
 
 // The eight bytes of the record at `o`.
+#[tactic(auto, unfolding(crate::specs::Frame::bytes_at))]
 pub fn bytes(f: &[u8], o: usize) -> [u8; 8]
     requires { o + 8 ≤ length f.now }
     ensures { result ≡ bytes_at f.now o }
 {
-    [
-        f[o],
-        f[o + 1],
-        f[o + 2],
-        f[o + 3],
-        f[o + 4],
-        f[o + 5],
-        f[o + 6],
-        f[o + 7],
-    ]
+    array::from_fn(|k| f[o + k])
 }
 
 // Whether voice v is kept from the main bus.
-pub fn routed_off(f: &[u8], v: usize) -> bool
-    requires { FRAME_BYTES ≤ length f.now }
+#[tactic(auto, using(crate::proofs::Tables::route_inside), unfolding(crate::specs::Frame::routed_off))]
+pub fn routed_off(f: &Frame, v: usize) -> bool
     ensures { result ≡ routed_off f.now v }
 {
-    let s = route_bit(v);
-    (f[ROUTE] >> s) & 1 != 0
+    let b = f.as_slice()[ROUTE];
+    (b >> route_bit(v)) & 1 != 0
 }
 
 // Voice v's filter code, 0 to 7.
-pub fn flt_code(f: &[u8], v: usize) -> u8
-    requires { FRAME_BYTES ≤ length f.now }
+#[tactic(auto, using(crate::proofs::Tables::flt_inside_lem), unfolding(crate::specs::Frame::flt_code))]
+pub fn flt_code(f: &Frame, v: usize) -> u8
     ensures { result ≡ flt_code f.now v }
 {
     let a = flt_at(v);
-    let k = a.byte;
-    let s = a.lo;
-    (f[k] >> s) & 7
+    let b = f.as_slice()[a.byte];
+    (b >> a.lo) & 7
 }
 
 #[derive(Clone, Copy)]
@@ -356,10 +311,12 @@ pub enum FltType {
     Pk,
 }
 
-impl FltType {
-    pub fn from_code(code: u8) -> FltType
-        ensures { result ≡ flt_type_of code }
-    {
+impl From<u8> for FltType {
+    // Of a filter code.
+    ghost from_gives = { λ code kind. kind ≡ flt_type_of code };
+
+    #[tactic(auto, unfolding(crate::specs::Frame::flt_type_of))]
+    fn from(code: u8) -> FltType {
         match code {
             6 => FltType::Lp1,
             1 => FltType::Bp,

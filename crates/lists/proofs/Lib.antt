@@ -1,4 +1,3 @@
 -- The laws.
 pub mod Sweep
-pub mod Missed
 pub mod Table

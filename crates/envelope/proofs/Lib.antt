@@ -1,5 +1,4 @@
 -- Laws of `envelope`.
-pub mod Bytes
 pub mod Ranges
 pub mod Tick
 pub mod Arrive

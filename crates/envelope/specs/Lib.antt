@@ -3,3 +3,4 @@ pub mod Record
 pub mod Moves
 pub mod States
 pub mod Levels
+pub mod Gain

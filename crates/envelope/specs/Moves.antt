@@ -56,8 +56,12 @@ unfoldable pub dual_of : List ℕ → List ℕ → Env → Env
 dual_of last r e = record { level = settle (dual_move last r) e.level }
 
 -- ---- hat and cymbal: mode F after another mode starts it; a zero first word parks it
+-- mode F after another
+abbrev pub starts_of : ℕ → ℕ → Bool
+starts_of mode was = eqb mode 15 && not (eqb was 15)
+
 unfoldable pub hit_move : ℕ → List ℕ → Move
-hit_move mode r = move_by r (eqb (mode_of r) 15 && not (eqb mode 15)) false (not (record_of r).start_cmd)
+hit_move mode r = move_by r (starts_of (mode_of r) mode) false (not (record_of r).start_cmd)
 
 -- `Env` of hat or cymbal, which keep the mode that they saw last
 unfoldable pub hit_of : ℕ → List ℕ → Env → Env

@@ -1,13 +1,11 @@
 -- Rust's cast of a float to an i32, by its four cases: within the range, below it, from its end on, and not a number; and an i32 that is a float exactly. Assumes nothing.
-use Rattle.std.proofs.Common.{◌≡◌, ℕ, ◌+◌, ◌*◌, ◌/◌, ◌<◌, ◌≤◌, min, Bool, true, false, cond, ◌&&◌, ◌||◌, T, eqb, ltb, leb, ℤ, pos, negsuc, neg_ℤ, sym, refl, ap, subst, mul_comm, div-lt_iff_lt-mul, le-div_iff_mul-le, arith, lt→ltb, leb→le, ltb-false, ltb-true, lt-ltb, eqb-true}
+use Rattle.std.proofs.Common.{◌≡◌, ℕ, ◌+◌, ◌*◌, ◌/◌, ◌<◌, ◌≤◌, min, Bool, true, false, ◌&&◌, ◌||◌, T, eqb, ltb, leb, ℤ, pos, negsuc, neg_ℤ, sym, refl, ap, subst, mul_comm, div-lt_iff_lt-mul, le-div_iff_mul-le, arith, lt→ltb, leb→le, ltb-false, ltb-true, lt-ltb, eqb-true}
 use native.Mathlib.Nat.{div-le_of_le-mul}
 use lib.Signed.{le_z}
 use lib.Ieee.{Float, binary32, nan, inf, fin, up, down, lt, le, eq, ne, in_float, to_signed}
 use lib.Ieee.Fits.{down_pos, and_l}
 use lib.Ieee.Compare.{differs_from_itself}
-
-no : {X : Type 0} → false ≡ true → X
-no e = let z : ◌≡◌ {A = ℕ} 0 1 = ap (λ (b : Bool). cond b 1 0) e in absurd (omega arith)
+use Rattle.float.proofs.Never.{no}
 
 yes : (b : Bool) → b ≡ true → T b
 yes b e = subst T (sym e) tt

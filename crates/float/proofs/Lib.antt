@@ -5,3 +5,4 @@ pub mod Cast
 pub mod Eval
 pub mod Laws
 pub mod Remainder
+pub mod Never

@@ -1,5 +1,5 @@
 -- The remainder by 1 as the code finds it: below 1 it is the number itself, below 2^23 the number less its whole part, and from there on nothing; and a number plus +0. Assumes nothing.
-use Rattle.std.proofs.Common.{◌≡◌, ℕ, suc, ◌+◌, ◌-◌, ◌*◌, ◌/◌, ◌%◌, ◌^◌, ◌<◌, ◌≤◌, min, Bool, true, false, cond, not, T, ltb, ℤ, pos, negsuc, sym, refl, ap, ◌∙◌, subst, le_refl, add-zero, mul-le-mul_right, mod-lt, mod-eq_of_lt, mul_assoc, mul_comm, div-lt_iff_lt-mul, mul-pos, zero-mul, mul-one, mul_right_comm, arith, lit<, pow_pos, ltb-false, ltb-true, le-ltb}
+use Rattle.std.proofs.Common.{◌≡◌, ℕ, suc, ◌+◌, ◌-◌, ◌*◌, ◌/◌, ◌%◌, ◌^◌, ◌<◌, ◌≤◌, min, Bool, true, false, not, T, ltb, ℤ, pos, negsuc, sym, refl, ap, ◌∙◌, subst, le_refl, add-zero, mul-le-mul_right, mod-lt, mod-eq_of_lt, mul_assoc, mul_comm, div-lt_iff_lt-mul, mul-pos, zero-mul, mul-one, mul_right_comm, arith, lit<, pow_pos, ltb-false, ltb-true, le-ltb}
 use native.Mathlib.Nat.{mod-one, sub_self, mod-add-div', add-mul-mod_self_right, pow-succ'}
 use lib.Ieee.{Float, binary32, nan, inf, fin, low, up, down, round, sum, add, sub, neg, rem, lt, fits, of_int, to_signed}
 use lib.Ieee.Back.{round_whole}
@@ -11,9 +11,7 @@ use Rattle.line.proofs.Rounds.{rep_same, exact_at}
 use Rattle.line.proofs.Exact.{value_unique}
 use Rattle.line.proofs.Mono.{Good, good_is, units_of, neg_round}
 use Rattle.line.proofs.Rem.{one, nought, nought_is, rem_is, fits_parts}
-
-no : {X : Type 0} → false ≡ true → X
-no e = let z : ◌≡◌ {A = ℕ} 0 1 = ap (λ (b : Bool). cond b 1 0) e in absurd (omega arith)
+use Rattle.float.proofs.Never.{no}
 
 -- ---- adding +0 changes nothing but -0
 pub plus_nought : (m : ℕ) (e : ℤ) → T (fits binary32 (fin false m e)) → add binary32 (fin false m e) nought ≡ fin false m e

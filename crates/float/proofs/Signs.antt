@@ -1,14 +1,12 @@
 -- abs and signum by the tests that the code makes: below zero, above it, equal to it, and else not a number. Assumes nothing.
-use Rattle.std.proofs.Common.{◌≡◌, ℕ, zero, suc, ◌+◌, ◌*◌, ◌<◌, Bool, true, false, cond, ◌&&◌, ◌||◌, T, eqb, ℤ, pos, negsuc, sym, refl, ap, ◌∙◌, mul-pos, arith, eqb→eq, ltb-false, ltb-true, eq-eqb, eqb-true}
+use Rattle.std.proofs.Common.{◌≡◌, ℕ, zero, suc, ◌+◌, ◌*◌, ◌<◌, Bool, true, false, ◌&&◌, ◌||◌, T, eqb, ℤ, pos, negsuc, sym, refl, ap, ◌∙◌, mul-pos, arith, eqb→eq, ltb-false, ltb-true, eq-eqb, eqb-true}
 use mathlib.Core.Bool.{or-true}
 use lib.Pow.{pow-lt}
 use lib.Ieee.{Float, binary32, nan, inf, fin, up, down, lt, eq, neg, add, div, fits}
 use lib.Ieee.Fits.{up_pos}
 use Rattle.float.specs.Floats.{abs_of, signum_of}
 use Rattle.float.proofs.Remainder.{plus_nought}
-
-no : {X : Type 0} → false ≡ true → X
-no e = let z : ◌≡◌ {A = ℕ} 0 1 = ap (λ (b : Bool). cond b 1 0) e in absurd (omega arith)
+use Rattle.float.proofs.Never.{no}
 
 abbrev pub zero+ : Float
 zero+ = fin false 0 (pos 0)

@@ -11,9 +11,3 @@ part-requires c = not_below c.args.x c.if-x.true
 pub returns-then-x : goal.returns-then-x
 unfolding lib.Ieee.of_bits
 returns-then-x c = ap neg c.part.ensures ∙ rem_turned c.args.x c.if-x.true
-
-pub part-requires-2 : goal.part-requires-2
-part-requires-2 c = c.if-x.false
-
-pub returns : goal.returns
-returns c = c.part-2.ensures

@@ -1,4 +1,4 @@
-// The curves under C names: floats to floats, an answer for every bit pattern, and each with what document 01 promises of it.
+// The curves under C names: floats to floats, an answer for every bit pattern, and each with the promise of its crate.
 #![tactic(auto)]
 
 ghost use Rattle.std.specs.Prelude.{◌≡◌};

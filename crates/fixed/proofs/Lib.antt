@@ -4,3 +4,4 @@ pub mod Shifts
 pub mod Placed
 pub mod Packs
 pub mod Order
+pub mod Tiny

@@ -10,7 +10,7 @@ use lib.Dec.{T, ltb, eqb, ltb→lt, nltb→le, eqb→eq, eqb_refl, lt→ltb, T_n
 use lib.Ieee.{Float, nan, inf, fin, up, down, lt, le, eq, ne, neg, is_nan, below, level}
 use lib.Ieee.Fits.{and_i, and_l, and_r}
 use lib.Ieee.Bits.{is_true}
-use lib.Ieee.Compare.{differs_from_itself, nan_differs}
+use lib.Ieee.Compare.{nan_differs}
 
 -- a test's outcome
 pub on : {b : Bool} → b ≡ true → T b
@@ -170,9 +170,6 @@ a_number nan e = true≢false (sym nan_differs ∙ e)
 a_number (inf s) e = tt
 a_number (fin s m e) k = tt
 
-pub no_number : (t : Float) → ne t t ≡ true → t ≡ nan
-no_number t e = differs_from_itself t (on e)
-
 pub same_number : (t : Float) → T (not (is_nan t)) → ne t t ≡ false
 unfolding is_nan ne eq
 same_number nan h = absurd h
@@ -214,3 +211,10 @@ neg_below (fin false m e) h = absurd (none (lt_says false m e false 0 (pos 0) h)
   where
     none : m * up e * 1 < 0 * 1 * down e → ⊥
     none g = omega arith
+
+-- what is no number is nan
+pub is_no_number : (t : Float) → is_nan t ≡ true → t ≡ nan
+unfolding is_nan
+is_no_number nan e = refl
+is_no_number (inf s) e = absurd (true≢false (sym e))
+is_no_number (fin s m d) e = absurd (true≢false (sym e))

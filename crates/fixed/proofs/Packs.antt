@@ -14,7 +14,7 @@ use Rattle.series.specs.Near.{Relative}
 use Rattle.series.proofs.Algebra.{ac}
 use Rattle.series.proofs.Nearness.{relative_value}
 use Rattle.fixed.specs.Fixed.{pack_of}
-use Rattle.fixed.proofs.Fields.{pattern_carry}
+use Rattle.fixed.proofs.Fields.{pattern_carry, bits_no_nan}
 
 -- the numbers, with the powers of two as they are: X * K * Z = F * W
 low : (B b q m X K Z F W : ℕ) → 0 < Z → X * K * Z ≡ F * W → B * (q * Z) ≤ b * (m * F) → B * q * W ≤ b * (m * X) * K
@@ -91,3 +91,6 @@ module _ (q k : ℕ) (fit : q < 18446744073709551616) (qp : 0 < q) (kl : k ≤ 1
 pub pack_fits : (q k : ℕ) → T (fits binary32 (pack_of q k))
 unfolding pack_of
 pack_fits q k = of_bits-fits binary32 ((189 - count_leading_zeros 64 q - k) * 8388608 + (q * 2 ^ count_leading_zeros 64 q / 549755813888 + 1) / 2)
+
+-- what `pack` needs
+pub ruleset packs = (z_lt, shl_is, packed, bits_lt, bits_no_nan)

@@ -3,20 +3,19 @@ use mathlib.Core.Path.{◌≡◌, refl, sym, ap, ◌∙◌, subst}
 use Prim.Native.Nat.{ℕ, zero, suc, ◌+◌, ◌-◌, ◌*◌, ◌/◌, ◌%◌, ◌^◌, ◌≤◌, ◌<◌}
 use mathlib.Core.Bool.{Bool, true, false, cond, not}
 use mathlib.Core.Logic.{◌⊎◌, inl, inr}
-use native.Mathlib.Nat.{le_trans, lt_of_lt_of_le, mul-one, div-one, mul-le-mul_right, mul-lt-mul_of_pos_right, lt_of_mul-lt-mul_right, eq_of_mul-eq-mul_right, lt_of_not-le, add_comm, lt_irrefl, mul-le-mul_left, le_of_suc-le-suc, eq-zero-or-pos, eq-or-lt_of_le}
+use native.Mathlib.Nat.{le_trans, lt_of_lt_of_le, mul-one, div-one, mul-le-mul_right, mul-lt-mul_of_pos_right, lt_of_mul-lt-mul_right, eq_of_mul-eq-mul_right, lt_of_not-le, add_comm, lt_irrefl, mul-le-mul_left, le_of_suc-le-suc, eq-zero-or-pos}
 use native.Mathlib.Omega.{arith}
 use lib.IntN.{ℤ}
-use lib.Dec.{T, leb, ltb, eqb, ltb→lt, nltb→le, le→leb, lit<}
-use lib.Arith.{lt→nleb}
+use lib.Dec.{T, leb, ltb, eqb, ltb→lt, nltb→le, lit<}
 use lib.Pow.{pow_pos, pow-add, pow_mono}
 use lib.Ieee.{Float, nan, inf, fin, binary32, up, down, of_bits, to_bits, of_fields, fits, is_nan}
-use lib.Ieee.Bits.{of_bits-to_bits, to_bits-lt, is_true, is_false}
+use lib.Ieee.Bits.{of_bits-to_bits}
 use lib.Ieee.Exact.{HasValue}
 use lib.Ieee.Nearest.{div_same}
 use Rattle.series.proofs.Algebra.{ac, sub_mul}
 use Rattle.fixed.specs.Fixed.{place_at, place_of, size_at, size_of, small, shifted}
 use Rattle.fixed.proofs.Fields.{down_pos, zero_field, some_field}
-use Rattle.fixed.proofs.Shifts.{size_tiny, near_zero, near_pos, near_neg}
+use Rattle.fixed.proofs.Shifts.{size_tiny}
 
 -- (128 c ± a) / c over another denominator
 cross : (s : Bool) (a c D K P : ℕ) → a * P * K ≡ D * c → shifted s a c * P * K ≡ shifted s D (P * K) * c
@@ -139,9 +138,6 @@ module _ (t : Float) (h : T (fits binary32 t)) (i : T (small t)) where
   pub zero_told : to_bits binary32 t % 2147483648 / 8388608 ≡ 0 → HasValue t (leb 2147483648 (to_bits binary32 t)) (to_bits binary32 t % 8388608 * 2 ^ 0) (2 ^ 149)
   zero_told z = let b = to_bits binary32 t in zero_case (b % 2147483648 / 8388608) (leb 2147483648 b) (b % 8388608) same z
 
-  pub zero_place : to_bits binary32 t % 2147483648 / 8388608 ≡ 0 → place_at (leb 2147483648 (to_bits binary32 t)) 1 (to_bits binary32 t % 8388608) ≡ place_of t
-  zero_place z = let b = to_bits binary32 t in place_value t (leb 2147483648 b) (b % 8388608) 0 (zero_told z)
-
   pub zero_size : to_bits binary32 t % 2147483648 / 8388608 ≡ 0 → size_at 1 (to_bits binary32 t % 8388608) ≡ size_of t
   zero_size z = let b = to_bits binary32 t in size_value t (leb 2147483648 b) (b % 8388608) 0 (zero_told z)
 
@@ -149,10 +145,20 @@ module _ (t : Float) (h : T (fits binary32 t)) (i : T (small t)) where
   pub told : (to_bits binary32 t % 2147483648 / 8388608 ≡ 0 → ⊥) → Told t (leb 2147483648 (to_bits binary32 t)) (to_bits binary32 t % 2147483648 / 8388608) (to_bits binary32 t % 8388608)
   told z = let b = to_bits binary32 t in some_case (b % 2147483648 / 8388608) (leb 2147483648 b) (b % 8388608) (omega arith) same z
 
-  pub told_from : 94 ≤ to_bits binary32 t % 2147483648 / 8388608 → Told t (leb 2147483648 (to_bits binary32 t)) (to_bits binary32 t % 2147483648 / 8388608) (to_bits binary32 t % 8388608)
+  -- from the field 94 on
+  told_from : 94 ≤ to_bits binary32 t % 2147483648 / 8388608 → Told t (leb 2147483648 (to_bits binary32 t)) (to_bits binary32 t % 2147483648 / 8388608) (to_bits binary32 t % 8388608)
   told_from l = told (λ z. omega arith)
 
-  -- a t below 2 ^ -32: its size, and its place from 0 on and below 0
+  pub low_from : 94 ≤ to_bits binary32 t % 2147483648 / 8388608 → to_bits binary32 t % 2147483648 / 8388608 ≤ 133
+  low_from l = (told_from l).low
+
+  pub place_from : 94 ≤ to_bits binary32 t % 2147483648 / 8388608 → place_at (leb 2147483648 (to_bits binary32 t)) (to_bits binary32 t % 2147483648 / 8388608) (to_bits binary32 t % 8388608 + 8388608) ≡ place_of t
+  place_from l = (told_from l).place
+
+  pub size_from : 94 ≤ to_bits binary32 t % 2147483648 / 8388608 → size_at (to_bits binary32 t % 2147483648 / 8388608) (to_bits binary32 t % 8388608 + 8388608) ≡ size_of t
+  size_from l = (told_from l).size
+
+  -- a t with a field below 94: its size
   by_field : {A : Type 0} → (to_bits binary32 t % 2147483648 / 8388608 ≡ 0 → A) → ((to_bits binary32 t % 2147483648 / 8388608 ≡ 0 → ⊥) → A) → A
   by_field {A} f g = go (eq-zero-or-pos (to_bits binary32 t % 2147483648 / 8388608))
     where
@@ -167,34 +173,11 @@ module _ (t : Float) (h : T (fits binary32 t)) (i : T (small t)) where
       (λ z. size_tiny 1 (b % 8388608) (lit< tt) (omega arith) ∙ zero_size z)
       (λ z. size_tiny (b % 2147483648 / 8388608) (b % 8388608 + 8388608) l (omega arith) ∙ (told z).size)
 
-  pub tiny_above : to_bits binary32 t % 2147483648 / 8388608 < 94 → to_bits binary32 t ≤ 2147483648 → 549755813888 ≡ place_of t
-  tiny_above l u = go (eq-or-lt_of_le u)
-    where
-      go : (to_bits binary32 t ≡ 2147483648) ⊎ (to_bits binary32 t < 2147483648) → 549755813888 ≡ place_of t
-      go (inl e) =
-          let b = to_bits binary32 t in
-          let z : b % 2147483648 / 8388608 ≡ 0 = omega arith in
-          let d : b % 8388608 ≡ 0 = omega arith in
-          let s : leb 2147483648 b ≡ true = is_true (leb 2147483648 b) (le→leb 2147483648 b (omega arith)) in
-          near_zero 1 (lit< tt) ∙ rw (s, d) at (zero_place z)
-      go (inr h) =
-          let b = to_bits binary32 t in
-          let s : leb 2147483648 b ≡ false = is_false (leb 2147483648 b) (lt→nleb 2147483648 b h) in
-          by_field
-          (λ z. near_pos 1 (b % 8388608) (lit< tt) (omega arith) ∙ rw s at (zero_place z))
-          (λ z. near_pos (b % 2147483648 / 8388608) (b % 8388608 + 8388608) l (omega arith) ∙ rw s at (told z).place)
-
-  pub tiny_below : to_bits binary32 t % 2147483648 / 8388608 < 94 → 2147483648 < to_bits binary32 t → 549755813887 ≡ place_of t
-  tiny_below l u =
-      let b = to_bits binary32 t in
-      let w : b < 4294967296 = to_bits-lt binary32 t h in
-      let s : leb 2147483648 b ≡ true = is_true (leb 2147483648 b) (le→leb 2147483648 b (omega arith)) in
-      by_field
-      (λ z. near_neg 1 (b % 8388608) (lit< tt) (omega arith) (omega arith) ∙ rw s at (zero_place z))
-      (λ z. near_neg (b % 2147483648 / 8388608) (b % 8388608 + 8388608) l (omega arith) (omega arith) ∙ rw s at (told z).place)
-
 pub no_nan : (t : Float) → T (small t) → T (not (is_nan t))
 unfolding small is_nan
 no_nan nan i = i
 no_nan (inf s) i = absurd i
 no_nan (fin s m e) i = tt
+
+-- what `size` needs
+pub ruleset sizes = (no_nan, tiny_size, low_from, size_from)

@@ -2,7 +2,7 @@
 use mathlib.Core.Path.{◌≡◌, sym, ap, ◌∙◌}
 use Prim.Native.Nat.{ℕ, ◌+◌, ◌-◌, ◌*◌, ◌/◌, ◌%◌, ◌^◌, ◌≤◌, ◌<◌}
 use mathlib.Core.Bool.{Bool, true, false, cond, not}
-use native.Mathlib.Nat.{lt_of_lt_of_le, div-eq_of_lt, div-eq_of_lt-le, mul_assoc}
+use native.Mathlib.Nat.{lt_of_lt_of_le, div-eq_of_lt, mul_assoc}
 use native.Mathlib.Omega.{arith}
 use lib.Dec.{T, ltb, lit<, lt→ltb, ltb→lt, nltb→le}
 use lib.Pow.{pow_pos, pow-add, pow_mono, shl_exact, shl_lt}
@@ -84,19 +84,11 @@ place_plus = place_whole false
 tiny : (x d : ℕ) → x < 94 → d < 16777216 → d < 2 ^ (118 - x)
 tiny x d h k = lt_of_lt_of_le k (pow_mono {i = 24} (omega arith))
 
-under : (s : Bool) (x d : ℕ) → x < 94 → shifted s d (4294967296 * 2 ^ (118 - x)) / 2 ^ (118 - x) ≡ place_at s x d
-unfolding place_at
-under s x d h = rw (is_true (ltb x 118) (lt→ltb x 118 (omega arith)))
-
-pub near_neg : (x d : ℕ) → x < 94 → d < 16777216 → 0 < d → 549755813887 ≡ place_at true x d
-near_neg x d h k p = let t = tiny x d h k in sym (div-eq_of_lt-le {k = 549755813887} (2 ^ (118 - x)) (omega arith) (omega arith)) ∙ under true x d h
-
-pub near_zero : (x : ℕ) → x < 94 → 549755813888 ≡ place_at true x 0
-near_zero x h = sym (div-eq_of_lt-le {k = 549755813888} (2 ^ (118 - x)) (omega arith) (omega (arith, pow_pos (118 - x)))) ∙ under true x 0 h
-
-pub near_pos : (x d : ℕ) → x < 94 → d < 16777216 → 549755813888 ≡ place_at false x d
-near_pos x d h k = let t = tiny x d h k in sym (div-eq_of_lt-le {k = 549755813888} (2 ^ (118 - x)) (omega arith) (omega arith)) ∙ under false x d h
-
 pub size_tiny : (x d : ℕ) → x < 94 → d < 16777216 → 0 ≡ size_at x d
 unfolding size_at
 size_tiny x d h k = rw (is_true (ltb x 118) (lt→ltb x 118 (omega arith))) (sym (div-eq_of_lt (tiny x d h k)))
+
+-- what `Parts::whole` and `Parts::place` need
+pub ruleset wholes = (whole_is, whole_small)
+
+pub ruleset places = (place_minus, place_plus)

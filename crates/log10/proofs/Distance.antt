@@ -17,7 +17,7 @@ use Rattle.log10.specs.Near.{Between, Log10Near}
 use Rattle.log10.proofs.Method.{part_small}
 use Rattle.log10.proofs.Rounding.{K, log10_rounding, log10_reduction_over, log10_reduction_under}
 use Rattle.log10.proofs.Curve.{between}
-use Rattle.log10.proofs.Fields.{Told, told}
+use Rattle.log10.proofs.Fields.{Told, told, bits_lt}
 use Rattle.power.proofs.Numbers.{P, M}
 
 -- what the result is to be
@@ -96,14 +96,14 @@ at_infinity (inf true) h = absurd h
 at_infinity (inf false) h = refl
 at_infinity (fin s m e) h = absurd h
 
-pub is_finite : (x : Float) → T (le least x) → T (not (le (inf false) x)) → T (finite x)
+is_finite : (x : Float) → T (le least x) → T (not (le (inf false) x)) → T (finite x)
 unfolding le lt eq
 is_finite nan h k = absurd h
 is_finite (inf true) h k = absurd h
 is_finite (inf false) h k = absurd k
 is_finite (fin s m e) h k = tt
 
-pub log10_middle : (x : Float) → T (le least x) → T (finite x) → log10_of x ≡ tenth_of (place_log (to_bits binary32 x))
+log10_middle : (x : Float) → T (le least x) → T (finite x) → log10_of x ≡ tenth_of (place_log (to_bits binary32 x))
 unfolding log10_of
 log10_middle x l f = rw (is_true (le least x) l, is_false (le (inf false) x) (not_infinite x f))
 
@@ -120,3 +120,17 @@ log10_near x h = record {
   infinite = λ e. unfold log10_of le lt eq in rw e;
   elsewhere = λ l. unfold log10_of in rw (is_false (le least x) l);
 }
+
+-- ---- what the function knows from 10 ^ -6 to below infinity, of the exponent's field e and the digits D
+pub record Ready (x : Float) (e D : ℕ) : Type 0 where
+  pub high : e ≤ 254
+  pub is : tenth_of (e * 4294967296 + part_of (D - 8388608)) ≡ log10_of x
+
+pub ready : (x : Float) → T (fits binary32 x) → T (le least x) → T (not (le (inf false) x)) → (e D : ℕ) → e ≡ to_bits binary32 x % 2147483648 / 8388608 → D ≡ to_bits binary32 x % 8388608 + 8388608 → Ready x e D
+unfolding place_log
+ready x h l n e D ee ed =
+    let f = is_finite x l n in
+    let b = bits_lt x h l f in
+    let field : e ≡ to_bits binary32 x / 8388608 = omega arith in
+    let digits : D - 8388608 ≡ to_bits binary32 x % 8388608 = omega arith in
+    rw field record { high = (told x h l f).high; is = rw digits (sym (log10_middle x l f)) }

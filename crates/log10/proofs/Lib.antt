@@ -4,3 +4,4 @@ pub mod Rounding
 pub mod Curve
 pub mod Fields
 pub mod Distance
+pub mod Branches

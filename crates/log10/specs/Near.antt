@@ -1,4 +1,4 @@
--- What document 01 asks of log10. Assumes nothing.
+-- How near log10 is to the exact one. Assumes nothing.
 use Rattle.std.specs.Prelude.{◌≡◌, Bool, false, not, ℕ, ◌*◌, ◌≤◌, T, Float}
 use Rattle.std.specs.Float.{nan, inf}
 use Rattle.std.specs.Float.Ieee.{le}

@@ -1,7 +1,7 @@
 // The table of powers of two.
 
 // 2^n for n from -126 to 126, at the place n + 126; beside each its n
-pub const TWO_POWERS: [f32; 253] = [
+pub static TWO_POWERS: [f32; 253] = [
     1.0 / 85070591730234615865843651857942052864.0, // -126
     1.0 / 42535295865117307932921825928971026432.0, // -125
     1.0 / 21267647932558653966460912964485513216.0, // -124

@@ -13,3 +13,4 @@ pub mod Ranges
 pub mod Mono
 pub mod Order
 pub mod Laws
+pub mod Tests

@@ -2,7 +2,7 @@
 use mathlib.Core.Path.{◌≡◌, sym, ap, ◌∙◌}
 use mathlib.Core.Bool.{true, false}
 use Prim.Native.Nat.{ℕ, ◌+◌, ◌*◌, ◌/◌, ◌%◌, ◌≤◌, ◌<◌}
-use native.Mathlib.Nat.{le_trans, le_of_lt, add-mul, mul_right_comm, mul-le-mul, mul-le-mul_left, mul-le-mul_right, le_of_mul-le-mul_right, div-mul-le_self, add-mul-div_right, mod-add-div', add_comm}
+use native.Mathlib.Nat.{le_trans, le_of_lt, add-mul, mul_right_comm, mul-le-mul, mul-le-mul_right, le_of_mul-le-mul_right, div-mul-le_self, add-mul-div_right, mod-add-div', add_comm}
 use native.Mathlib.Omega.{arith}
 use lib.Dec.{T, lt→ltb, lit<, lit≤}
 use lib.Pow.{shr-shr}
@@ -14,14 +14,10 @@ use Rattle.power.specs.Power.{zero_f, exp2_low, exp2_high, exp_low, ten_low, ten
 use Rattle.power.proofs.Reduction.{spot_lo, spot_hi, product_small}
 use Rattle.power.proofs.Curves.{exp2_lo, exp2_hi, exp_size, ten_size}
 
-pub step_room : (y k : ℕ) → y < 4294967296 → k < 4294967296 → (y * k ≤ 18446744065119617025) × (y * k / 4294967296 ≤ y)
-step_room y k h l =
-    (mul-le-mul {n₂ = 4294967295} {m₂ = 4294967295} (omega arith) (omega arith), le_of_mul-le-mul_right {k = 4294967296} (le_trans (div-mul-le_self (y * k) 4294967296) (mul-le-mul_left y (le_of_lt l))) (lit< tt))
-
--- Horner's steps
-pub steps : (k y₂ y₁ y : ℕ) → y₂ ≡ 1007582 + 7275 * k / 4294967296 → y₁ ≡ 93032639 + y₂ * k / 4294967296 → y ≡ 4294967296 + y₁ * k / 4294967296 → y ≡ horner 4294967296 coefs k
+-- Horner's steps: the products of the last digits with each sum
+pub steps : (k p₂ p₁ p : ℕ) → p₂ ≡ 7275 * k / 4294967296 → p₁ ≡ (1007582 + p₂) * k / 4294967296 → p ≡ (93032639 + p₁) * k / 4294967296 → 4294967296 + p ≡ horner 4294967296 coefs k
 unfolding horner
-steps k y₂ y₁ y e₂ e₁ e = e ∙ ap (λ (z : ℕ). 4294967296 + z * k / 4294967296) (e₁ ∙ ap (λ (z : ℕ). 93032639 + z * k / 4294967296) (e₂ ∙ ap (λ (z : ℕ). 1007582 + z * k / 4294967296) last))
+steps k p₂ p₁ p e₂ e₁ e = rw (e, e₁, e₂) (ap (λ (z : ℕ). 4294967296 + (93032639 + (1007582 + z * k / 4294967296) * k / 4294967296) * k / 4294967296) last)
   where
     last : 7275 ≡ 7275 + 0 * k / 4294967296
     last = omega arith

@@ -1,4 +1,4 @@
--- What document 01 asks of the three curves. Assumes nothing.
+-- How near the three curves are to the exact ones. Assumes nothing.
 use Rattle.std.specs.Prelude.{◌≡◌, false, not, ◌&&◌, ◌%◌, ◌^◌, T, Float}
 use Rattle.std.specs.Float.{nan, inf}
 use Rattle.std.specs.Float.Ieee.{lt, le}

@@ -33,9 +33,6 @@ module _ (d f : ℕ) (some : 0 < d) (few : d < 16777216) (least : 1 ≤ f) (most
   abbrev known : Sizes d f
   known = sizes d f some few least most
 
-  pub bits_lt : exponent d f * 8388608 + nearest_root (scaled d f) < 2139095040
-  bits_lt = omega (arith, known)
-
   correct_of : (p w : ℕ) (r : Float) → p * 2 ^ 149 ≡ d * 2 ^ (f - 1) * w → T (fits binary32 r) → HasValue r false (nearest_root (scaled d f) * 2 ^ exponent d f) (2 ^ 149) → Correct p w r
   correct_of p w nan e h v = v
   correct_of p w (inf s) e h v = v
@@ -101,7 +98,7 @@ module _ (m : ℕ) (e : ℤ) (h : T (fits binary32 (fin false (suc m) e))) where
       rest : (b : ℕ) → b < 8388608 → b % 8388608 ≡ b
       rest b l = omega arith
 
-  pub high_parts : 8388608 ≤ to_bits binary32 x → Parts x (to_bits binary32 x % 8388608 + 8388608) (to_bits binary32 x / 8388608)
+  high_parts : 8388608 ≤ to_bits binary32 x → Parts x (to_bits binary32 x % 8388608 + 8388608) (to_bits binary32 x / 8388608)
   high_parts l = let b = to_bits binary32 x in subst (λ (z : ℕ). Parts x (b % 8388608 + 8388608) z) (rest b sign_clear) (told.1.1 (some b l sign_clear))
     where
       rest : (b : ℕ) → b < 2147483648 → b % 2147483648 / 8388608 ≡ b / 8388608
@@ -111,11 +108,11 @@ module _ (m : ℕ) (e : ℤ) (h : T (fits binary32 (fin false (suc m) e))) where
       some b l h z = omega arith
 
   -- the definition, by cases
-  pub low_root : to_bits binary32 x < 8388608 → of_bits binary32 (root_at (to_bits binary32 x) 1) ≡ sqrt_of x
+  low_root : to_bits binary32 x < 8388608 → of_bits binary32 (root_at (to_bits binary32 x) 1) ≡ sqrt_of x
   unfolding sqrt_of root_bits
   low_root l = rw (eqb-suc-zero m, is_true (ltb (to_bits binary32 x) 8388608) (lt→ltb (to_bits binary32 x) 8388608 l))
 
-  pub high_root : 8388608 ≤ to_bits binary32 x → of_bits binary32 (root_at (to_bits binary32 x % 8388608 + 8388608) (to_bits binary32 x / 8388608)) ≡ sqrt_of x
+  high_root : 8388608 ≤ to_bits binary32 x → of_bits binary32 (root_at (to_bits binary32 x % 8388608 + 8388608) (to_bits binary32 x / 8388608)) ≡ sqrt_of x
   unfolding sqrt_of root_bits
   high_root l = rw (eqb-suc-zero m, is_false (ltb (to_bits binary32 x) 8388608) (le→nltb (to_bits binary32 x) 8388608 l))
 
@@ -126,18 +123,31 @@ module _ (m : ℕ) (e : ℤ) (h : T (fits binary32 (fin false (suc m) e))) where
       go (inl h) = let p = high_parts h in subst (Correct (suc m * up e) (down e)) (high_root h) (root_at_lem (to_bits binary32 x % 8388608 + 8388608) (to_bits binary32 x / 8388608) p.some p.few p.least p.most (suc m * up e) (down e) p.is.1)
       go (inr l) = let p = low_parts l in subst (Correct (suc m * up e) (down e)) (low_root l) (root_at_lem (to_bits binary32 x) 1 p.some p.few p.least p.most (suc m * up e) (down e) p.is.1)
 
--- what holds of a number above 0
-pub record Above (x : Float) : Type 0 where
-  pub low_parts : to_bits binary32 x < 8388608 → Parts x (to_bits binary32 x) 1
-  pub high_parts : 8388608 ≤ to_bits binary32 x → Parts x (to_bits binary32 x % 8388608 + 8388608) (to_bits binary32 x / 8388608)
-  pub low_root : to_bits binary32 x < 8388608 → of_bits binary32 (root_at (to_bits binary32 x) 1) ≡ sqrt_of x
-  pub high_root : 8388608 ≤ to_bits binary32 x → of_bits binary32 (root_at (to_bits binary32 x % 8388608 + 8388608) (to_bits binary32 x / 8388608)) ≡ sqrt_of x
+-- what holds of a number above 0, of the exponent's field f and the digits D
+pub record Above (x : Float) (f D : ℕ) : Type 0 where
+  pub low_parts : f ≡ 0 → Parts x (D - 8388608) 1
+  pub high_parts : (f ≡ 0 → ⊥) → Parts x D f
+  pub low_root : f ≡ 0 → of_bits binary32 (root_at (D - 8388608) 1) ≡ sqrt_of x
+  pub high_root : (f ≡ 0 → ⊥) → of_bits binary32 (root_at D f) ≡ sqrt_of x
 
-pub above : (x : Float) → Some x → T (fits binary32 x) → Above x
-above x s h = subst Above (sym s.is) (go s.m s.e (subst (λ (y : Float). T (fits binary32 y)) s.is h))
+pub above : (x : Float) → Some x → T (fits binary32 x) → (f D : ℕ) → f ≡ to_bits binary32 x % 2147483648 / 8388608 → D ≡ to_bits binary32 x % 8388608 + 8388608 → Above x f D
+above x s h f D ef ed = go (subst (λ (y : Float). T (fits binary32 y)) s.is h) (rw s.is at ef) (rw s.is at ed)
   where
-    go : (m : ℕ) (e : ℤ) → T (fits binary32 (fin false (suc m) e)) → Above (fin false (suc m) e)
-    go m e h = record { low_parts = low_parts m e h; high_parts = high_parts m e h; low_root = low_root m e h; high_root = high_root m e h }
+    go : T (fits binary32 (fin false (suc s.m) s.e)) → f ≡ to_bits binary32 (fin false (suc s.m) s.e) % 2147483648 / 8388608 → D ≡ to_bits binary32 (fin false (suc s.m) s.e) % 8388608 + 8388608 → Above x f D
+    go h ef ed = subst (λ (y : Float). Above y f D) (sym s.is) (make s.m s.e h ef ed)
+      where
+        make : (m : ℕ) (e : ℤ) → T (fits binary32 (fin false (suc m) e)) → f ≡ to_bits binary32 (fin false (suc m) e) % 2147483648 / 8388608 → D ≡ to_bits binary32 (fin false (suc m) e) % 8388608 + 8388608 → Above (fin false (suc m) e) f D
+        make m e h ef ed =
+            let clear = sign_clear m e h in
+            let field : f ≡ to_bits binary32 (fin false (suc m) e) / 8388608 = omega arith in
+            let low : f ≡ 0 → (to_bits binary32 (fin false (suc m) e) < 8388608) × (D - 8388608 ≡ to_bits binary32 (fin false (suc m) e)) = λ z. (omega arith, omega arith) in
+            let high : (f ≡ 0 → ⊥) → 8388608 ≤ to_bits binary32 (fin false (suc m) e) = λ n. omega arith in
+            record {
+              low_parts = λ z. rw (low z).1 (low_parts m e h (low z).0);
+              high_parts = λ n. rw (field, ed) (high_parts m e h (high n));
+              low_root = λ z. rw (low z).1 (low_root m e h (low z).0);
+              high_root = λ n. rw (field, ed) (high_root m e h (high n));
+            }
 
 -- ---- every value
 pub sqrt_near : (x : Float) → T (fits binary32 x) → Root x (sqrt_of x)

@@ -5,3 +5,4 @@ pub mod Scaled
 pub mod Cases
 pub mod Tests
 pub mod Laws
+pub mod Branches

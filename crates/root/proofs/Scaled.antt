@@ -1,11 +1,11 @@
 -- The digits d and the exponent's field x of the argument: the shifts lose nothing, the root has 24 digits, and the exponent halves. Assumes nothing.
 use mathlib.Core.Path.{◌≡◌, sym, ap, ◌∙◌, subst}
-use Prim.Native.Nat.{ℕ, suc, ◌+◌, ◌-◌, ◌*◌, ◌%◌, ◌^◌, ◌≤◌, ◌<◌, suc-le-suc}
+use Prim.Native.Nat.{ℕ, suc, ◌+◌, ◌-◌, ◌*◌, ◌/◌, ◌%◌, ◌^◌, ◌≤◌, ◌<◌, suc-le-suc}
 use native.Mathlib.Nat.{le_trans, le_of_eq, lt_irrefl, lt_of_lt_of_le, lt_of_not-le, mul_assoc, mul-le-mul, mul-le-mul_right}
 use native.Mathlib.Omega.{arith}
 use lib.Count.{count_leading_zeros, leading_top}
 use lib.Pow.{pow-add, pow_mono, shl_exact, shl_lt}
-use Rattle.root.specs.Root.{nearest_root, odd, scaled, exponent}
+use Rattle.root.specs.Root.{nearest_root, odd, scaled, exponent, root_at}
 use Rattle.root.proofs.Whole.{Nearest, root_is}
 
 -- 24 digits
@@ -96,3 +96,38 @@ module _ (d x : ℕ) (dp : 0 < d) (dl : d < 16777216) (xp : 1 ≤ x) (xl : x ≤
       mul_assoc d (2 ^ (x - 1)) (2 ^ 149)
       ∙ ap (λ (w : ℕ). d * w) (sym (pow-add 2 (x - 1) 149) ∙ ap (λ (i : ℕ). 2 ^ i) exponents ∙ pow-add 2 (z + odd d x - 17) (exponent d x + exponent d x) ∙ ap (λ (w : ℕ). 2 ^ (z + odd d x - 17) * w) (pow-add 2 (exponent d x) (exponent d x)))
       ∙ sym (mul_assoc d (2 ^ (z + odd d x - 17)) (2 ^ exponent d x * 2 ^ exponent d x))
+
+-- ---- one by one, as `root_bits` needs them
+module _ (d : ℕ) (dp : 0 < d) (dl : d < 16777216) where
+  pub zeros_low : 40 ≤ count_leading_zeros 64 d
+  zeros_low = (sizes d 1 dp dl (omega arith) (omega arith)).zeros_low
+
+  pub zeros_high : count_leading_zeros 64 d < 64
+  zeros_high = (sizes d 1 dp dl (omega arith) (omega arith)).zeros_high
+
+  pub wide_is : d * 2 ^ (count_leading_zeros 64 d - 40) % 18446744073709551616 ≡ d * 2 ^ (count_leading_zeros 64 d - 40)
+  wide_is = (sizes d 1 dp dl (omega arith) (omega arith)).wide_is
+
+  pub wide_lt : d * 2 ^ (count_leading_zeros 64 d - 40) < 16777216
+  wide_lt = (sizes d 1 dp dl (omega arith) (omega arith)).wide_lt
+
+module _ (d x : ℕ) (dp : 0 < d) (dl : d < 16777216) (xp : 1 ≤ x) (xl : x ≤ 254) where
+  pub scaled_is : d * 2 ^ (count_leading_zeros 64 d + (x + count_leading_zeros 64 d + 1) % 2 - 17) % 18446744073709551616 ≡ d * 2 ^ (count_leading_zeros 64 d + (x + count_leading_zeros 64 d + 1) % 2 - 17)
+  scaled_is = (sizes d x dp dl xp xl).scaled_is
+
+  pub scaled_low : 0 < d * 2 ^ (count_leading_zeros 64 d + (x + count_leading_zeros 64 d + 1) % 2 - 17)
+  scaled_low = omega (arith, (sizes d x dp dl xp xl).scaled_low)
+
+  pub scaled_high : d * 2 ^ (count_leading_zeros 64 d + (x + count_leading_zeros 64 d + 1) % 2 - 17) < 281474976710656
+  scaled_high = omega (arith, (sizes d x dp dl xp xl).scaled_high)
+
+  pub root_at_is : (n : ℕ) → n ≡ nearest_root (d * 2 ^ (count_leading_zeros 64 d + (x + count_leading_zeros 64 d + 1) % 2 - 17)) → (x + 165 - count_leading_zeros 64 d - (x + count_leading_zeros 64 d + 1) % 2) / 2 * 8388608 + n ≡ root_at d x
+  unfolding root_at
+  root_at_is n e = rw e
+
+  pub root_at_lt : root_at d x < 2139095040
+  unfolding root_at
+  root_at_lt = let known = sizes d x dp dl xp xl in omega (arith, known)
+
+-- what `root_bits` needs
+pub ruleset root_sizes = (zeros_low, zeros_high, wide_is, wide_lt, scaled_is, scaled_low, scaled_high, root_at_is, root_at_lt)

@@ -1,14 +1,13 @@
 -- What the tests of `sqrt` tell of its argument. Assumes nothing.
 use mathlib.Core.Path.{◌≡◌, refl, sym, ap, ap₂, ◌∙◌}
-use mathlib.Core.Bool.{Bool, true, false, not, ◌||◌, beq, true≢false}
+use mathlib.Core.Bool.{Bool, true, false, ◌||◌, beq, true≢false}
 use Prim.Native.Nat.{ℕ, zero, suc, ◌*◌, ◌≤◌, ◌<◌}
 use native.Mathlib.Nat.{mul-pos, zero-mul}
 use native.Mathlib.Omega.{arith}
 use lib.IntN.{ℤ, pos}
-use lib.Dec.{T, eqb, eqb→eq, eqb-suc-zero}
+use lib.Dec.{eqb, eqb→eq, eqb-suc-zero}
 use lib.Ieee.{Float, nan, inf, fin, up, down, eq, lt, le, level, is_nan}
 use lib.Ieee.Fits.{and_l, up_pos}
-use lib.Ieee.Scale.{finite}
 use Rattle.fixed.proofs.Order.{on, off, lt_says, not_lt, le_says}
 use Rattle.root.specs.Root.{sqrt_of}
 
@@ -26,12 +25,6 @@ pub record Some (x : Float) : Type 0 where
   pub m : ℕ
   pub e : ℤ
   pub is : x ≡ fin false (suc m) e
-
-pub no_nan : (x : Float) → Some x → T (not (is_nan x))
-unfolding is_nan
-no_nan nan s = absurd (true≢false (sym (ap finite s.is)))
-no_nan (inf t) s = tt
-no_nan (fin t m e) s = tt
 
 pub some : (x : Float) → lt nought x ≡ true → le (inf false) x ≡ false → Some x
 unfolding lt le eq

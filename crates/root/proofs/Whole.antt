@@ -70,3 +70,10 @@ square_le n h = mul-le-mul h h
 pub above : (n : ℕ) → 0 < n * n → 1 ≤ n
 above zero h = omega arith
 above (suc n) h = omega arith
+
+-- where both counts have ended
+pub counted : (q n : ℕ) → 0 < q → q < 281474976710656 → n * n < q + n → q ≤ n * n + n → n ≡ nearest_root q
+counted q n p h past short = one_nearest q n (nearest_root q) (record { past = past; short = short }) (root_is q p h)
+
+-- what `nearest_root` needs
+pub ruleset counts = (square_le, above, root_lt, counted)

@@ -132,15 +132,15 @@ tan_near (fin s (suc m) e) h = ((λ t. rw (is_true (up_to one_five (fin s (suc m
     go t true l n = own_relative s m e t (l tt)
     go t false l n = tan_pack s (suc m) e h t (n tt)
 
--- ---- what the function asks
-pub record Ready (x : Float) : Type 0 where
+-- ---- what the function asks, of the exponent's field f
+pub record Ready (x : Float) (f : ℕ) : Type 0 where
   pub angle : size_of x / 2 ≤ 3221225472
-  pub field : 62 ≤ to_bits binary32 x % 2147483648 / 8388608
-  pub below : to_bits binary32 x % 2147483648 / 8388608 ≤ 133
+  pub field : 62 ≤ f
+  pub below : f ≤ 133
 
-pub ready : (x : Float) → T (fits binary32 x) → T (up_to one_five x) → T (not (lt x tiny)) → Ready x
+pub ready : (x : Float) → T (fits binary32 x) → T (up_to one_five x) → T (not (lt x tiny)) → (f : ℕ) → f ≡ to_bits binary32 x % 2147483648 / 8388608 → Ready x f
 unfolding le lt eq size_of
-ready nan h t n = absurd t
-ready (inf true) h t n = absurd t
-ready (inf false) h t n = absurd t
-ready (fin s m e) h t n = record { angle = big_x_le s m e h t n; field = field_low s m e h t n; below = (told_parts s m e h t n).low }
+ready nan h t n f e = absurd t
+ready (inf true) h t n f e = absurd t
+ready (inf false) h t n f e = absurd t
+ready (fin s m i) h t n f e = rw e record { angle = big_x_le s m i h t n; field = field_low s m i h t n; below = (told_parts s m i h t n).low }

@@ -1,5 +1,4 @@
 -- The laws of sin, cos and tan. Assumes nothing.
-pub mod Sign
 pub mod Nested
 pub mod Pairs
 pub mod Turn
@@ -13,3 +12,5 @@ pub mod Digits
 pub mod Fields
 pub mod Bound
 pub mod Laws
+pub mod Tests
+pub mod Sign

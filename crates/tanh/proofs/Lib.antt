@@ -9,3 +9,4 @@ pub mod Cases
 pub mod Curve
 pub mod Ranges
 pub mod Laws
+pub mod Tests

@@ -1,4 +1,4 @@
--- What document 01 asks of tanh. Assumes nothing.
+-- How near tanh is to the exact one. Assumes nothing.
 use Rattle.std.specs.Prelude.{◌≡◌, Bool, true, not, ◌^◌, T, pos, Float}
 use Rattle.std.specs.Float.{nan, inf, fin}
 use Rattle.std.specs.Float.Ieee.{le, neg, is_nan}

@@ -11,6 +11,7 @@ ghost use Rattle.tanh.specs.Near.{TanhNear};
 const TWO_LOG2_E: u64 = 12392656037;
 
 // 2^-u in Q32, for a u of Q32
+#[tactic(auto, unfolding(crate::specs::Tanh::decay_of), using(crate::proofs::Method::decay_le))]
 fn decay(u: u64) -> u64
     requires { u ≤ 128849018880 }
     ensures { (result ≡ decay_of u) × (result ≤ 4294967296) }
@@ -20,6 +21,7 @@ fn decay(u: u64) -> u64
 }
 
 // (1 - e) / (1 + e) in Q31, for an e of Q32
+#[tactic(auto, unfolding(crate::specs::Tanh::quotient_of))]
 fn quotient(e: u64) -> u64
     requires { e ≤ 4294967296 }
     ensures { result ≡ quotient_of e }
@@ -28,6 +30,7 @@ fn quotient(e: u64) -> u64
 }
 
 // of an a that is not below 0
+#[tactic(auto, using(crate::proofs::Tests::above_tests))]
 fn above(a: f32) -> f32
     requires { T (le zero_f a) }
     ensures { result ≡ above_of a }
@@ -42,11 +45,12 @@ fn above(a: f32) -> f32
     fixed::pack(quotient(e), 31)
 }
 
+#[tactic(auto, using(crate::proofs::Tests::tanh_tests))]
 pub fn tanh(x: f32) -> f32
     ensures is { result ≡ tanh_of x }
     ensures near { TanhNear x result }
 {
-    if x != x {
+    if x.is_nan() {
         return x;
     }
     if x < 0.0 {

@@ -2,18 +2,13 @@
 use mathlib.Core.Path.{◌≡◌, ap, ◌∙◌}
 use Prim.Native.Nat.{ℕ, ◌+◌, ◌-◌, ◌*◌, ◌/◌}
 use native.Mathlib.Omega.{arith}
-use lib.Dec.{le→leb}
-use lib.Ieee.{binary32, of_bits, in_float}
+use lib.Ieee.{binary32, of_bits}
 use Rattle.power.specs.Power.{fraction_of, power_of}
 use Rattle.power.proofs.Scaling.{product_is_pattern}
 use Rattle.power.proofs.power.Goals as goal
 
 once : (s : ℕ) → (s + 274877906944) / 549755813888 ≡ (s / 1073741824 + 256) / 512
 once s = omega arith
-
-pub int_to_float-result : goal.int_to_float-result
-unfolding in_float
-int_to_float-result c = le→leb ((c.scaled.result + 274877906944) / 549755813888) 16777216 (omega (arith, c.scaled.ensures.2))
 
 pub returns : goal.returns
 unfolding power_of fraction_of

@@ -1,8 +1,0 @@
--- `power::root` meets its contract: each arm is its entry of the table. Assumes nothing.
-use mathlib.Core.Path.{refl}
-use native.Mathlib.Omega.{arith}
-use Rattle.lists.proofs.Missed.{last}
-use Rattle.power.proofs.root.Goals as goal
-
-pub returns-in_default : goal.returns-in_default
-returns-in_default c = rw (last 31 c.args.i c.requires c.in_default.in_default-own.rest) (refl, omega arith)

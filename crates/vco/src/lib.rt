@@ -19,6 +19,7 @@ pub enum Wave {
 }
 
 // The asymmetric sine's place in its turn: the first half-cycle takes 35 % of the period.
+#[tactic(auto, unfolding(crate::specs::Vco::asym_of))]
 fn asym(ph: f32) -> f32
     ensures { result ≡ asym_of ph }
 {
@@ -27,27 +28,23 @@ fn asym(ph: f32) -> f32
 
 impl Wave {
     // The waveform of the bits (a, b, c).
+    #[tactic(auto, unfolding(crate::specs::Vco::wave_from_bits))]
     pub fn from_bits(a: bool, b: bool, c: bool) -> Wave
         ensures { result ≡ wave_from_bits a b c }
     {
-        if a {
-            if b {
-                if c { Wave::Triangle } else { Wave::Saw }
-            } else if c {
-                Wave::Sine
-            } else {
-                Wave::SineSaw
-            }
-        } else if b {
-            if c { Wave::Square } else { Wave::Off }
-        } else if c {
-            Wave::AsymSine
-        } else {
-            Wave::Off
+        match (a, b, c) {
+            (true, false, true) => Wave::Sine,
+            (false, false, true) => Wave::AsymSine,
+            (true, true, true) => Wave::Triangle,
+            (true, false, false) => Wave::SineSaw,
+            (true, true, false) => Wave::Saw,
+            (false, true, true) => Wave::Square,
+            (false, _, false) => Wave::Off,
         }
     }
 
     // The waveform at phase `ph` (0..1).
+    #[tactic(auto, unfolding(crate::specs::Vco::wave_at))]
     pub fn at(self, ph: f32) -> f32
         ensures { result ≡ wave_at self ph }
     {
@@ -63,7 +60,8 @@ impl Wave {
     }
 }
 
-// One audio frame's settings of a dual-oscillator voice.
+// One audio frame's settings of a dual-oscillator voice. A frequency beside its `stopped`, a depth beside `fm`: an `Option` is no plainer, since
+// `sample` works both ways out without a branch and would take it apart at each of three uses; so would a pair of fields as an array.
 #[repr(C)]
 #[derive(Clone, Copy)]
 pub struct Osc2Set {
@@ -91,6 +89,7 @@ pub struct Pair {
     pub ph2: f32,
 }
 
+// The cores after a sample, and the sample: a struct of its own, since a call from C takes no generic one.
 #[repr(C)]
 #[derive(Clone, Copy)]
 pub struct PairOut {
@@ -99,6 +98,7 @@ pub struct PairOut {
 }
 
 // A stopped core gives a constant.
+#[tactic(auto, unfolding(crate::specs::Vco::osc_of))]
 fn osc(stopped: bool, wave: Wave, ph: f32) -> f32
     ensures { result ≡ osc_of stopped wave ph }
 {
@@ -109,6 +109,7 @@ fn osc(stopped: bool, wave: Wave, ph: f32) -> f32
 }
 
 // Ring modulation of o1: times a square from oscillator 2's core, whatever its waveform.
+#[tactic(auto, unfolding(crate::specs::Vco::ring_of))]
 fn ring(on: bool, o1: f32, stopped: bool, ph: f32) -> f32
     ensures { result ≡ ring_of on o1 stopped ph }
 {
@@ -117,6 +118,7 @@ fn ring(on: bool, o1: f32, stopped: bool, ph: f32) -> f32
 }
 
 // Oscillator 1's frequency under FM by o2.
+#[tactic(auto, unfolding(crate::specs::Vco::modulated))]
 fn modulate(fm: bool, f1: f32, depth_word: f32, o2: f32) -> f32
     ensures { result ≡ modulated fm f1 depth_word o2 }
 {
@@ -124,6 +126,7 @@ fn modulate(fm: bool, f1: f32, depth_word: f32, o2: f32) -> f32
 }
 
 // A phase advanced by hz / fs: its fraction.
+#[tactic(auto, unfolding(crate::specs::Vco::advanced))]
 pub fn advance(ph: f32, hz: f32, fs: f32) -> f32
     ensures { result ≡ advanced ph hz fs }
 {
@@ -141,15 +144,14 @@ pub fn advance_fm(ph: f32, hz: f32, fs: f32) -> f32
 
 impl Pair {
     // One sample at `fs`: oscillator 1 (FM'd, ring-modulated) times its level, plus oscillator 2 times its level unless it is the modulator.
+    #[tactic(auto, unfolding(crate::specs::Vco::pair_of))]
     pub fn sample(self, s: Osc2Set, fs: f32) -> PairOut
         ensures { result ≡ pair_of self s fs }
     {
-        let wave1 = s.wave1;
-        let wave2 = s.wave2;
-        let o2 = osc(s.stopped2, wave2, self.ph2);
+        let o2 = osc(s.stopped2, s.wave2, self.ph2);
         let o1 = ring(
             s.ring,
-            osc(s.stopped1, wave1, self.ph1),
+            osc(s.stopped1, s.wave1, self.ph1),
             s.stopped2,
             self.ph2,
         );

@@ -22,7 +22,7 @@ use Rattle.power.specs.Power.{exp2_of}
 use Rattle.power.proofs.Laws.{exp2_octave}
 use Rattle.wobble.specs.declared.Wobble.{Wobble}
 use Rattle.wobble.specs.declared.Drift.{Drift}
-use Rattle.wobble.specs.declared.Drifted.{Drifted}
+use Rattle.wobble.specs.declared.Drawn.{Drawn}
 use Rattle.wobble.specs.Wobble.{DETUNE_CENTS, DRIFT_CENTS, DRIFT_TAU, DRIFT_EVERY, xorshift_of, uni_of, detune_of, phase_of, cents_of, drift_of}
 
 -- from 0 to 1, from -1 to 1, and from a half to 2
@@ -141,11 +141,11 @@ ratio_in c h = exp2_half (c ⊘ k1200) small
     small : In binary32 (neg k0p5) k0p5 (c ⊘ k1200)
     small = unfold proves of_bits in range (neg k0p5) k0p5 (over (leaf h) k1200) tt
 
-pub drift_in : (d : Drift) (w : Wobble) → DriftIn d → WobbleIn w → DriftIn (drift_of d w).drift × WobbleIn (drift_of d w).w
+pub drift_in : (d : Drift) (w : Wobble) → DriftIn d → WobbleIn w → DriftIn (drift_of d w).x × WobbleIn (drift_of d w).w
 unfolding drift_of
 drift_in d w h k =
     let r = uni_in w k in
     let c = cents_in d.cents (uni_of w).x w.depth r.1 k.depth h.cents in
-    either (λ (x : Drifted). DriftIn x.drift × WobbleIn x.w) (ltb d.n (DRIFT_EVERY - 1)) _ _
+    either (λ (d : Drawn Drift). DriftIn d.x × WobbleIn d.w) (ltb d.n (DRIFT_EVERY - 1)) _ _
     (record { cents = h.cents; ratio = h.ratio }, k)
     (record { cents = c; ratio = ratio_in _ c }, r.0)

@@ -10,7 +10,6 @@ use Rattle.power.specs.Power.{exp2_of}
 use Rattle.wobble.specs.declared.Wobble.{Wobble}
 use Rattle.wobble.specs.declared.Drawn.{Drawn}
 use Rattle.wobble.specs.declared.Drift.{Drift}
-use Rattle.wobble.specs.declared.Drifted.{Drifted}
 
 -- a hit's detune at most, in cents
 abbrev pub DETUNE_CENTS : Float
@@ -40,15 +39,15 @@ unfoldable pub new_of : ℕ → Bool → Wobble
 new_of seed ideal = record { s = cond (eqb seed 0) 1 seed; depth = cond ideal k0 k1 }
 
 -- `uni`
-unfoldable pub uni_of : Wobble → Drawn
+unfoldable pub uni_of : Wobble → Drawn Float
 uni_of w = let s = xorshift_of w.s in record { w = record { s = s; depth = w.depth }; x = of_int binary32 (pos s) ⊘ k_u_max ⊗ k2 ⊖ k1 }
 
 -- `detune`
-unfoldable pub detune_of : Wobble → Float → Drawn
+unfoldable pub detune_of : Wobble → Float → Drawn Float
 detune_of w cents = let d = uni_of w in record { w = d.w; x = exp2_of (d.x ⊗ cents ⊗ w.depth ⊘ k1200) }
 
 -- `phase`
-unfoldable pub phase_of : Wobble → Drawn
+unfoldable pub phase_of : Wobble → Drawn Float
 phase_of w = let d = uni_of w in record { w = d.w; x = cond (lt k0 w.depth) (k0p5 ⊗ (d.x ⊕ k1)) k0 }
 
 -- `Drift::default`
@@ -62,10 +61,10 @@ cents_of cents u depth =
     cents ⊕ (neg a ⊗ cents ⊕ u ⊗ sqrt_of k3 ⊗ DRIFT_CENTS ⊗ sqrt_of (k2 ⊗ a) ⊗ depth)
 
 -- `Drift::tick`: a drift draws on every 32nd tick
-unfoldable pub drift_of : Drift → Wobble → Drifted
+unfoldable pub drift_of : Drift → Wobble → Drawn Drift
 drift_of d w =
     let r = uni_of w in
     let cents = cents_of d.cents r.x w.depth in
     cond (ltb d.n (DRIFT_EVERY - 1))
-    (record { drift = record { cents = d.cents; ratio = d.ratio; n = d.n + 1 }; w = w })
-    (record { drift = record { cents = cents; ratio = exp2_of (cents ⊘ k1200); n = 0 }; w = r.w })
+    (record { x = record { cents = d.cents; ratio = d.ratio; n = d.n + 1 }; w = w })
+    (record { x = record { cents = cents; ratio = exp2_of (cents ⊘ k1200); n = 0 }; w = r.w })

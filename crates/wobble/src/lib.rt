@@ -23,14 +23,14 @@ pub struct Wobble {
     pub depth: f32,
 }
 
-// The next state, and what was drawn.
-#[repr(C)]
+// The random source after draws, and what they gave.
 #[derive(Clone, Copy)]
-pub struct Drawn {
+pub struct Drawn<T> {
     pub w: Wobble,
-    pub x: f32,
+    pub x: T,
 }
 
+#[tactic(auto, unfolding(crate::specs::Wobble::xorshift_of))]
 fn xorshift(s: u32) -> u32
     ensures { result ≡ xorshift_of s }
 {
@@ -41,19 +41,20 @@ fn xorshift(s: u32) -> u32
 
 impl Wobble {
     // Seed 0 counts as 1.
+    #[tactic(auto, unfolding(crate::specs::Wobble::new_of))]
     pub fn new(seed: u32, ideal: bool) -> Wobble
         ensures { result ≡ new_of seed ideal }
     {
         let depth = float::choose(ideal, 0.0, 1.0);
-        if seed == 0 {
-            Wobble { s: 1, depth }
-        } else {
-            Wobble { s: seed, depth }
+        Wobble {
+            s: if seed == 0 { 1 } else { seed },
+            depth,
         }
     }
 
     // Uniform in -1..1; `u32::MAX as f32` is 2^32.
-    pub fn uni(self) -> Drawn
+    #[tactic(auto, unfolding(crate::specs::Wobble::uni_of))]
+    pub fn uni(self) -> Drawn<f32>
         ensures { result ≡ uni_of self }
     {
         let s = xorshift(self.s);
@@ -67,25 +68,25 @@ impl Wobble {
     }
 
     // A frequency ratio of up to ± `cents`.
-    pub fn detune(self, cents: f32) -> Drawn
+    #[tactic(auto, unfolding(crate::specs::Wobble::detune_of))]
+    pub fn detune(self, cents: f32) -> Drawn<f32>
         ensures { result ≡ detune_of self cents }
     {
         let d = self.uni();
-        let w = d.w;
         Drawn {
-            w,
+            w: d.w,
             x: power::exp2(d.x * cents * self.depth / 1200.0),
         }
     }
 
     // A random phase, or 0 for ideal components.
-    pub fn phase(self) -> Drawn
+    #[tactic(auto, unfolding(crate::specs::Wobble::phase_of))]
+    pub fn phase(self) -> Drawn<f32>
         ensures { result ≡ phase_of self }
     {
         let d = self.uni();
-        let w = d.w;
         Drawn {
-            w,
+            w: d.w,
             x: float::choose(0.0 < self.depth, 0.5 * (d.x + 1.0), 0.0),
         }
     }
@@ -100,14 +101,8 @@ pub struct Drift {
     pub n: u32,
 }
 
-#[repr(C)]
-#[derive(Clone, Copy)]
-pub struct Drifted {
-    pub drift: Drift,
-    pub w: Wobble,
-}
-
 impl Drift {
+    #[tactic(auto, unfolding(crate::specs::Wobble::drift_new))]
     pub fn new() -> Drift
         ensures { result ≡ drift_new }
     {
@@ -119,12 +114,13 @@ impl Drift {
     }
 
     // On every `DRIFT_EVERY`th tick a kick, and the pull back.
-    pub fn tick(self, w: Wobble) -> Drifted
+    #[tactic(auto, unfolding(crate::specs::Wobble::drift_of, crate::specs::Wobble::cents_of))]
+    pub fn tick(self, w: Wobble) -> Drawn<Drift>
         ensures { result ≡ drift_of self w }
     {
         if self.n < DRIFT_EVERY - 1 {
-            return Drifted {
-                drift: Drift {
+            return Drawn {
+                x: Drift {
                     cents: self.cents,
                     ratio: self.ratio,
                     n: self.n + 1,
@@ -136,14 +132,13 @@ impl Drift {
         let d = w.uni();
         let kick = d.x * root::sqrt(3.0) * DRIFT_CENTS * root::sqrt(2.0 * a);
         let cents = self.cents + (-a * self.cents + kick * w.depth);
-        let next = d.w;
-        Drifted {
-            drift: Drift {
+        Drawn {
+            x: Drift {
                 cents,
                 ratio: power::exp2(cents / 1200.0),
                 n: 0,
             },
-            w: next,
+            w: d.w,
         }
     }
 }

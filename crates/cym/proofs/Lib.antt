@@ -1,3 +1,4 @@
 -- Laws of `cym`.
+pub mod Every
 pub mod Inside
 pub mod Kept

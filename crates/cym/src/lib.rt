@@ -1,15 +1,17 @@
 // The cymbal and cowbell: the metal bank through five filtered paths, each under one of eight envelopes.
 #![tactic(auto)]
 
-ghost use Rattle.std.specs.Prelude.{◌≡◌, Bool, ◌≤◌, ◌<◌, max, length};
-ghost use Rattle.frame.specs.Offsets.{FRAME_BYTES};
+ghost use Rattle.std.specs.Prelude.{◌≡◌, ◌<◌};
 ghost use Rattle.lists.specs.Turns.{each_of};
-ghost use Rattle.cym.specs.Cym.{cym_new, record_at, env_at, modes_at, hit_at, any_hit, no_env, quiet_of, coefficient_of, path_of, paths_of, sound_of, sample_of};
+ghost use Rattle.cym.specs.Cym.{cym_new, record_at, env_at, modes_at, any_hit, no_env, quiet_of, coefficient_of, path_of, paths_of, sound_of, sample_of};
 
 use envelope::Env;
-use metal::Svf;
+use frame::Frame;
+use metal::{Bank, Drawn6, Svf};
+use std::array;
 use wobble::Wobble;
 
+// Phases beside detunes and envelopes beside modes, as the C header has them.
 #[repr(C)]
 #[derive(Clone, Copy)]
 pub struct Cym {
@@ -20,6 +22,7 @@ pub struct Cym {
     pub svf: [Svf; 5],
 }
 
+// Each source has such a struct of its own, since a call from C takes no generic one.
 #[repr(C)]
 #[derive(Clone, Copy)]
 pub struct CymOut {
@@ -30,60 +33,39 @@ pub struct CymOut {
 
 // ---- the eight envelopes
 
-fn record(f: &[u8], r: usize) -> [u8; 8]
-    requires { (FRAME_BYTES ≤ length f.now) × (r < 8) }
+#[tactic(auto, unfolding(crate::specs::Cym::record_at))]
+fn record(f: &Frame, r: usize) -> [u8; 8]
+    requires { r < 8 }
     ensures { result ≡ record_at f.now r }
 {
-    frame::bytes(f, frame::CYM_ENV + 8 * r)
+    frame::bytes(f.as_slice(), frame::CYM_ENV + 8 * r)
 }
 
-fn env_at(f: &[u8], mode: [u8; 8], r: usize, e: Env) -> Env
-    requires { (FRAME_BYTES ≤ length f.now) × (r < 8) }
-    ensures { result ≡ env_at f.now mode r e }
-{
-    e.hit(mode[r], record(f, r))
-}
-
-fn envs(f: &[u8], env: [Env; 8], mode: [u8; 8]) -> [Env; 8]
-    requires { FRAME_BYTES ≤ length f.now }
+#[tactic(auto, unfolding(lists::specs::Turns::turns_of, crate::specs::Cym::env_at))]
+fn envs(f: &Frame, mut env: [Env; 8], mode: [u8; 8]) -> [Env; 8]
     ensures { result ≡ each_of 8 (env_at f.now mode) no_env env }
 {
-    let mut a = env;
-    let mut r: usize = 0;
-    while r < 8 {
-        let e = a[r];
-        let n = env_at(f, mode, r, e);
-        a[r] = n;
-        r += 1;
+    for r in 0..8 {
+        env[r] = env[r].hit(mode[r], record(f, r));
     }
-    a
+    env
 }
 
-fn modes(f: &[u8]) -> [u8; 8]
-    requires { FRAME_BYTES ≤ length f.now }
+#[tactic(auto, unfolding(crate::specs::Cym::modes_at))]
+fn modes(f: &Frame) -> [u8; 8]
     ensures { result ≡ modes_at f.now }
 {
-    [
-        envelope::mode_of(record(f, 0)),
-        envelope::mode_of(record(f, 1)),
-        envelope::mode_of(record(f, 2)),
-        envelope::mode_of(record(f, 3)),
-        envelope::mode_of(record(f, 4)),
-        envelope::mode_of(record(f, 5)),
-        envelope::mode_of(record(f, 6)),
-        envelope::mode_of(record(f, 7)),
-    ]
+    array::from_fn(|r| envelope::mode_of(record(f, r)))
 }
 
 // Whether a record starts: mode F after another mode.
+#[tactic(auto, unfolding(lists::specs::Turns::turns_of, crate::specs::Cym::any_hit))]
 fn hit(now: [u8; 8], was: [u8; 8]) -> bool
     ensures { result ≡ any_hit now was }
 {
     let mut any = false;
-    let mut r: usize = 0;
-    while r < 8 {
-        any = any | ((now[r] == 15) & !(was[r] == 15));
-        r += 1;
+    for r in 0..8 {
+        any |= envelope::starts(now[r], was[r]);
     }
     any
 }
@@ -92,14 +74,7 @@ fn hit(now: [u8; 8], was: [u8; 8]) -> bool
 fn quiet(env: [Env; 8]) -> bool
     ensures { result ≡ quiet_of env }
 {
-    let mut all = true;
-    let mut r: usize = 0;
-    while r < 8 {
-        let e = env[r];
-        all = all & (e.level <= -127.5);
-        r += 1;
-    }
-    all
+    env.iter().all(|e| e.level <= -127.5)
 }
 
 // ---- the five paths
@@ -119,57 +94,49 @@ pub struct Metal {
 }
 
 // A path's coefficient: the colour moves its centre, but not the cowbell's.
+#[tactic(auto, unfolding(crate::specs::Cym::coefficient_of))]
 fn coefficient(hz: f32, fixed: bool, ratio: f32) -> f32
     ensures { result ≡ coefficient_of hz fixed ratio }
 {
     let fc = float::choose(fixed, hz, hz * ratio);
-    2.0 * sine::sin(float::PI * float::min(fc, 16000.0) / float::FS)
+    metal::coefficient(float::min(fc, 16000.0))
 }
 
+#[tactic(auto, using(crate::proofs::Inside::inside), unfolding(crate::specs::Cym::path_of))]
 fn path(s: Paths, p: usize, m: Metal, env: [Env; 8]) -> Paths
     requires { p < 5 }
     ensures { result ≡ path_of m env p s }
 {
     let c = frame::cym_path(p);
-    let r = c.rec;
-    let e = env[r];
-    let lv = e.level;
-    if lv <= -127.5 {
+    let level = env[c.rec].level;
+    if level <= -127.5 {
         return s;
     }
     // Record 7, the body: the cowbell's band-pass with two oscillators running, the cymbal's high-pass with six.
-    let body = (r == 7) & m.cowbell;
+    let body = (c.rec == 7) & m.cowbell;
     let hz = float::choose(body, 1200.0, c.hz);
-    let g = coefficient(hz, (r == 6) | body, m.ratio);
+    let g = coefficient(hz, (c.rec == 6) | body, m.ratio);
+    let q = s.svf[p].tick(m.x, g, 0.8);
+    let y = float::choose(c.high & !body, q.high, q.svf.band);
     let mut next = s;
-    let o = next.svf[p];
-    let q = o.tick(m.x, g, 0.8);
-    let svf = q.svf;
-    let y = float::choose(c.high & !body, q.high, svf.band);
-    next.svf[p] = svf;
-    next.out = next.out + y * float::max(lv / 127.0, 0.0);
+    next.svf[p] = q.svf;
+    next.out += y * float::max(level / 127.0, 0.0);
     next
 }
 
+#[tactic(auto, unfolding(lists::specs::Turns::turns_of, crate::specs::Cym::paths_of))]
 fn all_paths(svf: [Svf; 5], m: Metal, env: [Env; 8]) -> Paths
     ensures { result ≡ paths_of svf m env }
 {
     let mut s = Paths { svf, out: 0.0 };
-    let mut p: usize = 0;
-    while p < 5 {
+    for p in 0..5 {
         s = path(s, p, m, env);
-        p += 1;
     }
     s
 }
 
-fn at_least_one(n: u32) -> u32
-    ensures { result ≡ max n 1 }
-{
-    if n == 0 { 1 } else { n }
-}
-
 impl Cym {
+    #[tactic(auto, unfolding(crate::specs::Cym::cym_new))]
     pub fn new() -> Cym
         ensures { result ≡ cym_new }
     {
@@ -188,63 +155,53 @@ impl Cym {
     }
 
     // The bank through the paths, of a cymbal that sounds.
-    fn sound(self, f: &[u8], w: Wobble) -> CymOut
-        requires { FRAME_BYTES ≤ length f.now }
+    #[tactic(auto, unfolding(crate::specs::Cym::sound_of))]
+    fn sound(mut self, f: &Frame, w: Wobble) -> CymOut
         ensures { result ≡ sound_of f.now self w }
     {
-        let ph = self.ph;
-        let det = self.det;
-        let env = self.env;
-        let mode = self.mode;
-        let svf = self.svf;
-        let b = metal::run(f, frame::CYM_BANK, ph, det, true);
-        let colour = frame::signed_f32(f, frame::CYM_COLOUR) / 32768.0;
+        let Bank { ph, metal, running } = metal::run(f, frame::CYM_BANK, self.ph, &self.det, true);
+        let colour = frame::signed_f32(f.as_slice(), frame::CYM_COLOUR) / 32768.0;
         let m = Metal {
-            x: b.metal / float::from_u32(at_least_one(b.running)),
-            cowbell: b.running <= 2,
+            x: metal / float::from_u32(running.max(1)),
+            cowbell: running <= 2,
             ratio: power::exp2(0.75 * colour),
         };
-        let s = all_paths(svf, m, env);
-        let next = b.ph;
-        let after = s.svf;
+        let Paths { svf, out } = all_paths(self.svf, m, self.env);
+        self.ph = ph;
+        self.svf = svf;
         CymOut {
-            cym: Cym {
-                ph: next,
-                det,
-                env,
-                mode,
-                svf: after,
-            },
+            cym: self,
             w,
-            y: s.out * (frame::word_f32(f, frame::CYM_VCA) / 32767.0),
+            y: out * (frame::word_f32(f.as_slice(), frame::CYM_VCA) / 32767.0),
         }
     }
 
-    pub fn sample(self, f: &[u8], w: Wobble) -> CymOut
-        requires { FRAME_BYTES ≤ length f.now }
+    #[tactic(auto, unfolding(crate::specs::Cym::sample_of))]
+    pub fn sample(mut self, f: &Frame, w: Wobble) -> CymOut
         ensures { result ≡ sample_of f.now self w }
     {
-        let was = self.env;
-        let mode = self.mode;
+        let Cym {
+            ph,
+            det,
+            env: was,
+            mode,
+            ..
+        } = self;
         let now = modes(f);
         let env = envs(f, was, mode);
-        let ph = self.ph;
-        let det = self.det;
-        let svf = self.svf;
-        let d = metal::on_hit(hit(now, mode), quiet(was), ph, det, w);
-        let ph2 = d.ph;
-        let det2 = d.det;
-        let w2 = d.w;
-        let cym = Cym {
-            ph: ph2,
-            det: det2,
-            env,
-            mode: now,
-            svf,
-        };
+        let drawn = metal::on_hit(hit(now, mode), quiet(was), Drawn6 { ph, det, w });
+        let Drawn6 { ph, det, w } = drawn;
+        self.ph = ph;
+        self.det = det;
+        self.env = env;
+        self.mode = now;
         if quiet(env) {
-            return CymOut { cym, w: w2, y: 0.0 };
+            return CymOut {
+                cym: self,
+                w,
+                y: 0.0,
+            };
         }
-        cym.sound(f, w2)
+        self.sound(f, w)
     }
 }

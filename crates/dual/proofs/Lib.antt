@@ -1,4 +1,3 @@
 -- Laws of `dual`.
 pub mod Constants
-pub mod Inside
 pub mod Kept

@@ -10,6 +10,8 @@ use Rattle.frame.specs.Offsets.{PITCH_REC, AMP_REC, AMP2_REC, dual_spec}
 use Rattle.envelope.specs.Moves.{dual_of}
 use Rattle.power.specs.Power.{exp2_of}
 use Rattle.sine.specs.Sine.{sin_of}
+use Rattle.vco.specs.declared.Pair.{Pair}
+use Rattle.vco.specs.declared.PairOut.{PairOut}
 use Rattle.vco.specs.Vco.{wave_from_bits, advanced, pair_of}
 use Rattle.wobble.specs.declared.Wobble.{Wobble}
 use Rattle.wobble.specs.declared.Drift.{Drift}
@@ -19,7 +21,6 @@ use Rattle.dual.specs.declared.DualOsc.{DualOsc}
 use Rattle.dual.specs.declared.DualOut.{DualOut}
 use Rattle.dual.specs.declared.Settings.{Settings}
 use Rattle.dual.specs.declared.Trigged.{Trigged}
-use Rattle.dual.specs.declared.Sound.{Sound}
 
 -- `DualOsc::new`
 unfoldable pub dual_new : DualOsc
@@ -67,11 +68,11 @@ settings_of f d = record {
 }
 
 -- "A dual voice draws two detunes on a trig's rise, before its two drifts tick"
-unfoldable pub trig_of : Bool → Float → Float → List Float → Wobble → Trigged
-trig_of rise ph1 ph2 det w =
+unfoldable pub trig_of : Bool → Pair → List Float → Wobble → Trigged
+trig_of rise phases det w =
     let a = detune_of w DETUNE_CENTS in
     let b = detune_of a.w DETUNE_CENTS in
-    cond rise (record { ph1 = k0; ph2 = k0; det = a.x ∷ b.x ∷ []; w = b.w }) (record { ph1 = ph1; ph2 = ph2; det = det; w = w })
+    cond rise (record { phases = record { ph1 = k0; ph2 = k0 }; det = a.x ∷ b.x ∷ []; w = b.w }) (record { phases = phases; det = det; w = w })
 
 -- an oscillator's frequency
 unfoldable pub hz_of : ℕ → Float → Float → Float → Float
@@ -86,62 +87,63 @@ unfoldable pub word_level : ℕ → Float
 word_level w = of_int binary32 (pos w) ⊘ k32767
 
 -- with FM or ring modulation: the shared core
-unfoldable pub paired_of : Settings → Float → Float → Float → Float → Float → Sound
-paired_of i ph1 ph2 f1 f2 amp2 =
-    let o = pair_of (record { ph1 = ph1; ph2 = ph2 }) (record {
-      hz1 = f1;
-      hz2 = f2;
-      stopped1 = eqb i.tune1 0;
-      stopped2 = eqb i.tune2 0;
-      wave1 = wave_from_bits true false i.wave1;
-      wave2 = i.wave2;
-      level1 = word_level i.level1;
-      level2 = word_level i.level2;
-      depth_word = of_int binary32 (pos i.level2) ⊗ clamp_of (amp2 ⊘ k127) k0 k1;
-      fm = i.fm;
-      ring = i.ring;
-    }) FS in
-    record { ph1 = o.pair.ph1; ph2 = o.pair.ph2; y = o.y }
+unfoldable pub paired_of : Settings → Pair → Float → Float → Float → PairOut
+paired_of i phases hz1 hz2 amp2 = pair_of phases (record {
+  hz1 = hz1;
+  hz2 = hz2;
+  stopped1 = eqb i.tune1 0;
+  stopped2 = eqb i.tune2 0;
+  wave1 = wave_from_bits true false i.wave1;
+  wave2 = i.wave2;
+  level1 = word_level i.level1;
+  level2 = word_level i.level2;
+  depth_word = of_int binary32 (pos i.level2) ⊗ clamp_of (amp2 ⊘ k127) k0 k1;
+  fm = i.fm;
+  ring = i.ring;
+}) FS
 
 -- "without them oscillator 1 is a sine, with saw added where its wave switch is set"
-unfoldable pub plain_of : Settings → Float → Float → Float → Float → Sound
-plain_of i ph1 ph2 f1 f2 =
-    let o2 = sin_of (TAU ⊗ ph2) in
-    let o = sin_of (TAU ⊗ ph1) in
-    let o1 = cond i.wave1 (k0p7 ⊗ o ⊕ k0p3 ⊗ (k2 ⊗ ph1 ⊖ k1)) o in
-    record { ph1 = advanced ph1 f1 FS; ph2 = advanced ph2 f2 FS; y = o1 ⊗ word_level i.level1 ⊕ o2 ⊗ word_level i.level2 }
+unfoldable pub plain_of : Settings → Pair → Float → Float → PairOut
+plain_of i phases hz1 hz2 =
+    let o2 = sin_of (TAU ⊗ phases.ph2) in
+    let o = sin_of (TAU ⊗ phases.ph1) in
+    let o1 = cond i.wave1 (k0p7 ⊗ o ⊕ k0p3 ⊗ (k2 ⊗ phases.ph1 ⊖ k1)) o in
+    record {
+      pair = record { ph1 = advanced phases.ph1 hz1 FS; ph2 = advanced phases.ph2 hz2 FS };
+      y = o1 ⊗ word_level i.level1 ⊕ o2 ⊗ word_level i.level2;
+    }
 
--- "The core of 001 runs only with FM or ring on"
-unfoldable pub sound_of : Settings → Float → Float → Float → Float → Float → Sound
-sound_of i ph1 ph2 f1 f2 amp2 = cond (i.fm || i.ring) (paired_of i ph1 ph2 f1 f2 amp2) (plain_of i ph1 ph2 f1 f2)
+-- the shared core runs only with FM or ring modulation on
+unfoldable pub sound_of : Settings → Pair → Float → Float → Float → PairOut
+sound_of i phases hz1 hz2 amp2 = cond (i.fm || i.ring) (paired_of i phases hz1 hz2 amp2) (plain_of i phases hz1 hz2)
 
 -- `DualOsc::sample`
 unfoldable pub sample_of : List ℕ → ℕ → DualOsc → Wobble → DualOut
 sample_of f d e w =
     let i = settings_of f d in
-    let t = trig_of (i.trig && not e.trig) e.ph1 e.ph2 e.det w in
+    let t = trig_of (i.trig && not e.trig) (record { ph1 = e.ph1; ph2 = e.ph2 }) e.det w in
     let none : Drift = record { cents = nan; ratio = nan; n = 0 } in
     let d1 = drift_of (get_or e.drift 0 none) t.w in
     let d2 = drift_of (get_or e.drift 1 none) d1.w in
     let pitch = dual_of e.last_p i.rp e.pitch in
     let amp = dual_of e.last_a i.ra e.amp in
     let amp2 = dual_of e.last_m i.rm e.amp2 in
-    let f1 = hz_of i.tune1 pitch.level (get_or t.det 0 nan) d1.drift.ratio in
-    let f2 = hz_of i.tune2 pitch.level (get_or t.det 1 nan) d2.drift.ratio in
-    let s = sound_of i t.ph1 t.ph2 f1 f2 amp2.level in
+    let hz1 = hz_of i.tune1 pitch.level (get_or t.det 0 nan) d1.x.ratio in
+    let hz2 = hz_of i.tune2 pitch.level (get_or t.det 1 nan) d2.x.ratio in
+    let s = sound_of i t.phases hz1 hz2 amp2.level in
     record {
       dual = record {
         last_p = i.rp;
         last_a = i.ra;
-        ph1 = s.ph1;
-        ph2 = s.ph2;
+        ph1 = s.pair.ph1;
+        ph2 = s.pair.ph2;
         pitch = pitch;
         amp = amp;
         last_m = i.rm;
         amp2 = amp2;
         trig = i.trig;
         det = t.det;
-        drift = d1.drift ∷ d2.drift ∷ [];
+        drift = d1.x ∷ d2.x ∷ [];
       };
       w = d2.w;
       y = s.y ⊗ gain_of amp.level;

@@ -1,14 +1,15 @@
 // The hihat: the metal bank through a high-pass, under one envelope.
 #![tactic(auto)]
 
-ghost use Rattle.std.specs.Prelude.{◌≡◌, Bool, ◌≤◌, length};
-ghost use Rattle.frame.specs.Offsets.{FRAME_BYTES};
+ghost use Rattle.std.specs.Prelude.{◌≡◌};
 ghost use Rattle.hat.specs.Hat.{hat_new, colour_of, sound_of, sample_of};
 
 use envelope::Env;
-use metal::Svf;
+use frame::Frame;
+use metal::{Bank, Drawn6, Svf};
 use wobble::Wobble;
 
+// Phases and detunes side by side, as the C header has them.
 #[repr(C)]
 #[derive(Clone, Copy)]
 pub struct Hat {
@@ -19,6 +20,7 @@ pub struct Hat {
     pub hp: Svf,
 }
 
+// Each source has such a struct of its own, since a call from C takes no generic one.
 #[repr(C)]
 #[derive(Clone, Copy)]
 pub struct HatOut {
@@ -28,16 +30,17 @@ pub struct HatOut {
 }
 
 // The colour's cutoff as the filter's coefficient.
-fn colour(f: &[u8]) -> f32
-    requires { FRAME_BYTES ≤ length f.now }
+#[tactic(auto, unfolding(crate::specs::Hat::colour_of))]
+fn colour(f: &Frame) -> f32
     ensures { result ≡ colour_of f.now }
 {
-    let c = frame::signed_f32(f, frame::HAT_COLOUR) / 32768.0;
+    let c = frame::signed_f32(f.as_slice(), frame::HAT_COLOUR) / 32768.0;
     let fc = float::clamp(6000.0 * power::exp2(1.5 * c), 500.0, 16000.0);
-    2.0 * sine::sin(float::PI * fc / float::FS)
+    metal::coefficient(fc)
 }
 
 impl Hat {
+    #[tactic(auto, unfolding(crate::specs::Hat::hat_new))]
     pub fn new() -> Hat
         ensures { result ≡ hat_new }
     {
@@ -54,63 +57,43 @@ impl Hat {
     }
 
     // The bank through the high-pass, of a hat that sounds.
-    fn sound(self, f: &[u8], w: Wobble) -> HatOut
-        requires { FRAME_BYTES ≤ length f.now }
+    #[tactic(auto, unfolding(crate::specs::Hat::sound_of))]
+    fn sound(mut self, f: &Frame, w: Wobble) -> HatOut
         ensures { result ≡ sound_of f.now self w }
     {
-        let ph = self.ph;
-        let det = self.det;
-        let b = metal::run(f, frame::HAT_BANK, ph, det, false);
-        let s = self.hp.tick(b.metal / 6.0, colour(f), 1.2);
-        let next = b.ph;
-        let hp = s.svf;
-        let env = self.env;
-        let vca = frame::word_f32(f, frame::HAT_VCA) / 32767.0;
-        let gain = power::exp2((env.level - 127.0) / float::LEVELS_PER_6DB);
+        let Bank { ph, metal, .. } = metal::run(f, frame::HAT_BANK, self.ph, &self.det, false);
+        let s = self.hp.tick(metal / 6.0, colour(f), 1.2);
+        let vca = frame::word_f32(f.as_slice(), frame::HAT_VCA) / 32767.0;
+        self.ph = ph;
+        self.hp = s.svf;
         HatOut {
-            hat: Hat {
-                ph: next,
-                det,
-                env,
-                mode: self.mode,
-                hp,
-            },
+            hat: self,
             w,
-            y: s.high * vca * gain,
+            y: s.high * vca * envelope::loudness(self.env.level),
         }
     }
 
-    pub fn sample(self, f: &[u8], w: Wobble) -> HatOut
-        requires { FRAME_BYTES ≤ length f.now }
+    #[tactic(auto, unfolding(crate::specs::Hat::sample_of))]
+    pub fn sample(mut self, f: &Frame, w: Wobble) -> HatOut
         ensures { result ≡ sample_of f.now self w }
     {
-        let r = frame::bytes(f, frame::HAT_ENV);
+        let r = frame::bytes(f.as_slice(), frame::HAT_ENV);
         let mode = envelope::mode_of(r);
-        let was = self.env;
-        let ph = self.ph;
-        let det = self.det;
-        let d = metal::on_hit(
-            (mode == 15) & !(self.mode == 15),
-            was.level <= -127.5,
-            ph,
-            det,
-            w,
-        );
-        let env = was.hit(self.mode, r);
-        let ph2 = d.ph;
-        let det2 = d.det;
-        let w2 = d.w;
-        let hp = self.hp;
-        let hat = Hat {
-            ph: ph2,
-            det: det2,
-            env,
-            mode,
-            hp,
-        };
-        if env.level <= -127.5 {
-            return HatOut { hat, w: w2, y: 0.0 };
+        let hit = envelope::starts(mode, self.mode);
+        let Hat { ph, det, .. } = self;
+        let drawn = metal::on_hit(hit, self.env.level <= -127.5, Drawn6 { ph, det, w });
+        let Drawn6 { ph, det, w } = drawn;
+        self.ph = ph;
+        self.det = det;
+        self.env = self.env.hit(self.mode, r);
+        self.mode = mode;
+        if self.env.level <= -127.5 {
+            return HatOut {
+                hat: self,
+                w,
+                y: 0.0,
+            };
         }
-        hat.sound(f, w2)
+        self.sound(f, w)
     }
 }

@@ -23,10 +23,10 @@ use Rattle.vco.specs.Vco.{advanced}
 use Rattle.wobble.specs.declared.Wobble.{Wobble}
 use Rattle.wobble.specs.Wobble.{DETUNE_CENTS, phase_of, detune_of}
 use Rattle.wobble.proofs.Kept.{Unit, Ratio, WobbleIn, phase_in, detune_in}
-use Rattle.metal.specs.declared.Draws.{Draws}
+use Rattle.wobble.specs.declared.Drawn.{Drawn}
 use Rattle.metal.specs.declared.Drawn6.{Drawn6}
 use Rattle.metal.specs.declared.Bank.{Bank}
-use Rattle.metal.specs.Metal.{HAT_UNITS_PER_HZ, draw_phase, draw_detune, hit_draws, turn_of, bank_of}
+use Rattle.metal.specs.Metal.{HAT_UNITS_PER_HZ, draw, draw_phase, draw_detune, hit_draws, turn_of, bank_of}
 
 -- each of the six
 pub record Six (P : Float → Type 0) (xs : List Float) : Type 0 where
@@ -40,8 +40,8 @@ six_set {P} xs k x h p = record {
 }
 
 -- ---- draws
-pub record DrawsIn (P : Float → Type 0) (d : Draws) : Type 0 where
-  pub xs : Six P d.xs
+pub record DrawsIn (P : Float → Type 0) (d : Drawn (List Float)) : Type 0 where
+  pub xs : Six P d.x
   pub w : WobbleIn d.w
 
 pub record Drawn6In (d : Drawn6) : Type 0 where
@@ -49,11 +49,11 @@ pub record Drawn6In (d : Drawn6) : Type 0 where
   pub det : Six Ratio d.det
   pub w : WobbleIn d.w
 
-phase_drawn : (k : ℕ) (d : Draws) → DrawsIn Unit d → DrawsIn Unit (draw_phase k d)
-unfolding draw_phase
-phase_drawn k d h = let r = phase_in d.w h.w in record { xs = six_set d.xs k (phase_of d.w).x h.xs r.1; w = r.0 }
+phase_drawn : (k : ℕ) (d : Drawn (List Float)) → DrawsIn Unit d → DrawsIn Unit (draw_phase k d)
+unfolding draw
+phase_drawn k d h = let r = phase_in d.w h.w in record { xs = six_set d.x k (phase_of d.w).x h.xs r.1; w = r.0 }
 
-phases_drawn : (d : Draws) → DrawsIn Unit d → DrawsIn Unit (turns_of 6 draw_phase d)
+phases_drawn : (d : Drawn (List Float)) → DrawsIn Unit d → DrawsIn Unit (turns_of 6 draw_phase d)
 phases_drawn d h = turns_keep (DrawsIn Unit) 6 draw_phase d (λ k x l i. phase_drawn k x i) h
 
 -- ---- the bank: a field below 2 ^ 22
@@ -79,30 +79,30 @@ pub bank_in : (f : List ℕ) → Bytes f → (o : ℕ) (ph det : List Float) (sk
 unfolding bank_of
 bank_in f B o ph det skip h D = turns_keep (λ (b : Bank). Six Unit b.ph) 6 (λ k b. turn_of (field_at f (o + 4 * k)) det skip k b) _ (λ k b l i. turn_in (field_at f (o + 4 * k)) det skip k b (field_in f B (o + 4 * k)) D l i) h
 
-detune_drawn : (k : ℕ) (d : Draws) → DrawsIn Ratio d → DrawsIn Ratio (draw_detune k d)
-unfolding draw_detune
-detune_drawn k d h = let r = detune_in d.w h.w in record { xs = six_set d.xs k (detune_of d.w DETUNE_CENTS).x h.xs r.1; w = r.0 }
+detune_drawn : (k : ℕ) (d : Drawn (List Float)) → DrawsIn Ratio d → DrawsIn Ratio (draw_detune k d)
+unfolding draw
+detune_drawn k d h = let r = detune_in d.w h.w in record { xs = six_set d.x k (detune_of d.w DETUNE_CENTS).x h.xs r.1; w = r.0 }
 
 pub hit_in : (hit silent : Bool) (ph det : List Float) (w : Wobble) → Six Unit ph → Six Ratio det → WobbleIn w → Drawn6In (hit_draws hit silent ph det w)
 unfolding hit_draws
 hit_in hit silent ph det w h k m = by hit
   where
-    after : Draws
-    after = cond silent (turns_of 6 draw_phase (record { xs = ph; w = w })) (record { xs = ph; w = w })
+    after : Drawn (List Float)
+    after = cond silent (turns_of 6 draw_phase (record { x = ph; w = w })) (record { x = ph; w = w })
 
     after_in_lem : DrawsIn Unit after
     after_in_lem = go silent
       where
-        go : (s : Bool) → DrawsIn Unit (cond s (turns_of 6 draw_phase (record { xs = ph; w = w })) (record { xs = ph; w = w }))
-        go true = phases_drawn (record { xs = ph; w = w }) (record { xs = h; w = m })
+        go : (s : Bool) → DrawsIn Unit (cond s (turns_of 6 draw_phase (record { x = ph; w = w })) (record { x = ph; w = w }))
+        go true = phases_drawn (record { x = ph; w = w }) (record { xs = h; w = m })
         go false = record { xs = h; w = m }
 
-    d : Draws
-    d = turns_of 6 draw_detune (record { xs = det; w = after.w })
+    d : Drawn (List Float)
+    d = turns_of 6 draw_detune (record { x = det; w = after.w })
 
     d_in : DrawsIn Ratio d
-    d_in = turns_keep (DrawsIn Ratio) 6 draw_detune (record { xs = det; w = after.w }) (λ k x l i. detune_drawn k x i) (record { xs = k; w = after_in_lem.w })
+    d_in = turns_keep (DrawsIn Ratio) 6 draw_detune (record { x = det; w = after.w }) (λ k x l i. detune_drawn k x i) (record { xs = k; w = after_in_lem.w })
 
-    by : (b : Bool) → Drawn6In (cond b (record { ph = after.xs; det = d.xs; w = d.w }) (record { ph = ph; det = det; w = w }))
+    by : (b : Bool) → Drawn6In (cond b (record { ph = after.x; det = d.x; w = d.w }) (record { ph = ph; det = det; w = w }))
     by true = record { ph = after_in_lem.xs; det = d_in.xs; w = d_in.w }
     by false = record { ph = h; det = k; w = m }

@@ -2,14 +2,15 @@
 use Rattle.std.specs.Prelude.{ℕ, ◌+◌, ◌*◌, Bool, ◌&&◌, cond, List, get_or, set, eqb, pos, Float}
 use Rattle.std.specs.Float.{binary32, nan}
 use Rattle.std.specs.Float.Ieee.{neg, lt, of_int}
-use Rattle.float.specs.Consts.{k0, k1, FS, k0p5, k43p62}
+use Rattle.float.specs.Consts.{k0, k1, k2, FS, PI, k0p5, k43p62}
 use Rattle.float.specs.Ops.{◌⊕◌, ◌⊖◌, ◌⊗◌, ◌⊘◌}
 use Rattle.frame.specs.Frame.{field_at}
 use Rattle.lists.specs.Turns.{turns_of}
+use Rattle.sine.specs.Sine.{sin_of}
 use Rattle.vco.specs.Vco.{advanced}
 use Rattle.wobble.specs.declared.Wobble.{Wobble}
+use Rattle.wobble.specs.declared.Drawn.{Drawn}
 use Rattle.wobble.specs.Wobble.{DETUNE_CENTS, phase_of, detune_of}
-use Rattle.metal.specs.declared.Draws.{Draws}
 use Rattle.metal.specs.declared.Drawn6.{Drawn6}
 use Rattle.metal.specs.declared.Bank.{Bank}
 use Rattle.metal.specs.declared.Svf.{Svf}
@@ -19,20 +20,24 @@ use Rattle.metal.specs.declared.SvfOut.{SvfOut}
 abbrev pub HAT_UNITS_PER_HZ : Float
 HAT_UNITS_PER_HZ = k43p62
 
--- the k-th of six phases drawn, and of six detunes
-unfoldable pub draw_phase : ℕ → Draws → Draws
-draw_phase k d = let p = phase_of d.w in record { xs = set d.xs k p.x; w = p.w }
+-- the k-th of six drawn by g
+unfoldable pub draw : (Wobble → Drawn Float) → ℕ → Drawn (List Float) → Drawn (List Float)
+draw g k d = let p = g d.w in record { x = set d.x k p.x; w = p.w }
 
-unfoldable pub draw_detune : ℕ → Draws → Draws
-draw_detune k d = let p = detune_of d.w DETUNE_CENTS in record { xs = set d.xs k p.x; w = p.w }
+-- the k-th of six phases drawn, and of six detunes
+abbrev pub draw_phase : ℕ → Drawn (List Float) → Drawn (List Float)
+draw_phase = draw phase_of
+
+abbrev pub draw_detune : ℕ → Drawn (List Float) → Drawn (List Float)
+draw_detune = draw (λ w. detune_of w DETUNE_CENTS)
 
 -- a hit draws six detunes, and before them six phases where it follows silence
 unfoldable pub hit_draws : Bool → Bool → List Float → List Float → Wobble → Drawn6
 hit_draws hit silent ph det w =
-    let p = turns_of 6 draw_phase (record { xs = ph; w = w }) in
-    let after : Draws = cond silent p (record { xs = ph; w = w }) in
-    let d = turns_of 6 draw_detune (record { xs = det; w = after.w }) in
-    cond hit (record { ph = after.xs; det = d.xs; w = d.w }) (record { ph = ph; det = det; w = w })
+    let p = turns_of 6 draw_phase (record { x = ph; w = w }) in
+    let after : Drawn (List Float) = cond silent p (record { x = ph; w = w }) in
+    let d = turns_of 6 draw_detune (record { x = det; w = after.w }) in
+    cond hit (record { ph = after.x; det = d.x; w = d.w }) (record { ph = ph; det = det; w = w })
 
 -- oscillator k of the bank: its phase advances, and its square joins the sum; where `skip` is true a field of 0 leaves it off
 unfoldable pub turn_of : ℕ → List Float → Bool → ℕ → Bank → Bank
@@ -44,6 +49,10 @@ turn_of v det skip k b =
 -- the six in turn, their fields from o on
 unfoldable pub bank_of : List ℕ → ℕ → List Float → List Float → Bool → Bank
 bank_of f o ph det skip = turns_of 6 (λ k b. turn_of (field_at f (o + 4 * k)) det skip k b) (record { ph = ph; metal = k0; running = 0 })
+
+-- the coefficient of a cutoff in Hz
+abbrev pub svf_coefficient : Float → Float
+svf_coefficient fc = k2 ⊗ sin_of (PI ⊗ fc ⊘ FS)
 
 -- one sample of a state-variable filter
 unfoldable pub svf_of : Svf → Float → Float → Float → SvfOut

@@ -14,6 +14,7 @@ ghost use Rattle.sources_c.specs.Sources.{dual_answer, hat_answer, cym_answer, t
 use cym::{Cym, CymOut};
 use dual::{DualOsc, DualOut};
 use envelope::Record;
+use frame::Frame;
 use hat::{Hat, HatOut};
 use tom::{Tom, TomOut};
 use vco::{Osc2Set, Pair, PairOut, Wave};
@@ -32,26 +33,11 @@ pub struct RecordBytes {
 pub extern "C" fn rytm_record_parse(r: RecordBytes) -> Record
     ensures { result ≡ record_of r.b }
 {
-    let b = r.b;
-    Record::parse(b)
+    Record::parse(r.b)
 }
 
-// A waveform's number: its place in `Wave`.
-fn number(w: Wave) -> u32
-    ensures { result ≡ number_of w }
-{
-    match w {
-        Wave::Off => 0,
-        Wave::Sine => 1,
-        Wave::AsymSine => 2,
-        Wave::Triangle => 3,
-        Wave::SineSaw => 4,
-        Wave::Saw => 5,
-        Wave::Square => 6,
-    }
-}
-
-// The waveform of a number; off from 7 on.
+// The waveform of a number, which C passes; off from 7 on. `From<u32>` would have to stand beside `Wave`, where nothing has numbers.
+#[tactic(auto, unfolding(crate::specs::References::wave_of))]
 fn wave(n: u32) -> Wave
     ensures { result ≡ wave_of n }
 {
@@ -70,7 +56,7 @@ fn wave(n: u32) -> Wave
 pub extern "C" fn rytm_wave_from_bits(a: bool, b: bool, c: bool) -> u32
     ensures { result ≡ number_of (wave_from_bits a b c) }
 {
-    number(Wave::from_bits(a, b, c))
+    Wave::from_bits(a, b, c) as u32
 }
 
 #[unsafe(no_mangle)]
@@ -80,7 +66,7 @@ pub extern "C" fn rytm_wave_at(n: u32, ph: f32) -> f32
     wave(n).at(ph)
 }
 
-// `Osc2Set` with its waveforms by number.
+// `Osc2Set` with its waveforms by number, as C passes them.
 #[repr(C)]
 #[derive(Clone, Copy)]
 pub struct NumberedSet {
@@ -97,27 +83,36 @@ pub struct NumberedSet {
     pub ring: bool,
 }
 
+impl From<NumberedSet> for Osc2Set {
+    ghost from_gives = { λ numbered set. set ≡ set_of numbered };
+
+    #[tactic(auto, unfolding(crate::specs::References::set_of))]
+    fn from(s: NumberedSet) -> Osc2Set {
+        Osc2Set {
+            hz1: s.hz1,
+            hz2: s.hz2,
+            stopped1: s.stopped1,
+            stopped2: s.stopped2,
+            wave1: wave(s.wave1),
+            wave2: wave(s.wave2),
+            level1: s.level1,
+            level2: s.level2,
+            depth_word: s.depth_word,
+            fm: s.fm,
+            ring: s.ring,
+        }
+    }
+}
+
 #[unsafe(no_mangle)]
 pub extern "C" fn rytm_pair_sample(p: Pair, s: NumberedSet, fs: f32) -> PairOut
     ensures { result ≡ pair_of p (set_of s) fs }
 {
-    let set = Osc2Set {
-        hz1: s.hz1,
-        hz2: s.hz2,
-        stopped1: s.stopped1,
-        stopped2: s.stopped2,
-        wave1: wave(s.wave1),
-        wave2: wave(s.wave2),
-        level1: s.level1,
-        level2: s.level2,
-        depth_word: s.depth_word,
-        fm: s.fm,
-        ring: s.ring,
-    };
-    p.sample(set, fs)
+    p.sample(Osc2Set::from(s), fs)
 }
 
 // ---- the sources: a frame that is too short leaves one as it was, and gives 0
+// Each has calls of its own, since C takes no generic one.
 
 #[unsafe(no_mangle)]
 pub extern "C" fn rytm_dual_new() -> DualOsc
@@ -148,41 +143,45 @@ pub extern "C" fn rytm_tom_new() -> Tom
 }
 
 #[unsafe(no_mangle)]
+#[tactic(auto, unfolding(crate::specs::Sources::dual_answer))]
 pub extern "C" fn rytm_dual_sample(e: DualOsc, f: &[u8], d: usize, w: Wobble) -> DualOut
     ensures { result ≡ dual_answer f.now d e w }
 {
-    if f.len() < frame::FRAME_BYTES {
-        return DualOut { dual: e, w, y: 0.0 };
+    match Frame::new(f) {
+        Some(f) => e.sample(&f, d, w),
+        None => DualOut { dual: e, w, y: 0.0 },
     }
-    e.sample(f, d, w)
 }
 
 #[unsafe(no_mangle)]
+#[tactic(auto, unfolding(crate::specs::Sources::hat_answer))]
 pub extern "C" fn rytm_hat_sample(h: Hat, f: &[u8], w: Wobble) -> HatOut
     ensures { result ≡ hat_answer f.now h w }
 {
-    if f.len() < frame::FRAME_BYTES {
-        return HatOut { hat: h, w, y: 0.0 };
+    match Frame::new(f) {
+        Some(f) => h.sample(&f, w),
+        None => HatOut { hat: h, w, y: 0.0 },
     }
-    h.sample(f, w)
 }
 
 #[unsafe(no_mangle)]
+#[tactic(auto, unfolding(crate::specs::Sources::cym_answer))]
 pub extern "C" fn rytm_cym_sample(c: Cym, f: &[u8], w: Wobble) -> CymOut
     ensures { result ≡ cym_answer f.now c w }
 {
-    if f.len() < frame::FRAME_BYTES {
-        return CymOut { cym: c, w, y: 0.0 };
+    match Frame::new(f) {
+        Some(f) => c.sample(&f, w),
+        None => CymOut { cym: c, w, y: 0.0 },
     }
-    c.sample(f, w)
 }
 
 #[unsafe(no_mangle)]
+#[tactic(auto, unfolding(crate::specs::Sources::tom_answer))]
 pub extern "C" fn rytm_tom_sample(o: Tom, f: &[u8], t: usize, d: i32, w: Wobble) -> TomOut
     ensures { result ≡ tom_answer f.now t d o w }
 {
-    if f.len() < frame::FRAME_BYTES {
-        return TomOut { tom: o, w, y: 0.0 };
+    match Frame::new(f) {
+        Some(f) => o.sample(&f, t, d, w),
+        None => TomOut { tom: o, w, y: 0.0 },
     }
-    o.sample(f, t, d, w)
 }

@@ -1,4 +1,2 @@
 -- Laws of `tom`.
-pub mod Zero
-pub mod Inside
 pub mod Kept

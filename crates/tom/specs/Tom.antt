@@ -14,7 +14,7 @@ use Rattle.wobble.specs.declared.Wobble.{Wobble}
 use Rattle.wobble.specs.Wobble.{DETUNE_CENTS, detune_of}
 use Rattle.tom.specs.declared.Tom.{Tom}
 use Rattle.tom.specs.declared.TomOut.{TomOut}
-use Rattle.tom.specs.declared.Excited.{Excited}
+use Rattle.wobble.specs.declared.Drawn.{Drawn}
 
 -- the calibration's law: a tune CV of x * x / 2048 is x times this in Hz
 abbrev pub TOM_HZ_PER_X : Float
@@ -34,11 +34,14 @@ is_zero (pos n) = eqb n 0
 is_zero (negsuc n) = false
 
 -- "Toms redraw detune on a nonzero DAC word after at least 64 zero ones"
-unfoldable pub excite_of : Float → ℕ → ℤ → Wobble → Excited
-excite_of det quiet d w =
+unfoldable pub excite_of : ℤ → Tom → Wobble → Drawn Tom
+excite_of d o w =
     let h = detune_of w DETUNE_CENTS in
-    cond (is_zero d) (record { det = det; quiet = min (quiet + 1) (2 ^ 32 - 1); w = w })
-    (cond (ltb quiet TOM_REST) (record { det = det; quiet = 0; w = w }) (record { det = h.x; quiet = 0; w = h.w }))
+    let counted : Tom = record { y1 = o.y1; y2 = o.y2; det = o.det; quiet = min (o.quiet + 1) (2 ^ 32 - 1) } in
+    let moved : Tom = record { y1 = o.y1; y2 = o.y2; det = o.det; quiet = 0 } in
+    let hit : Tom = record { y1 = o.y1; y2 = o.y2; det = h.x; quiet = 0 } in
+    cond (is_zero d) (record { x = counted; w = w })
+    (cond (ltb o.quiet TOM_REST) (record { x = moved; w = w }) (record { x = hit; w = h.w }))
 
 -- the pitch of a tune CV
 unfoldable pub hz_of : Float → Float → Float
@@ -59,11 +62,11 @@ unfoldable pub sample_of : List ℕ → ℕ → ℤ → Tom → Wobble → TomOu
 sample_of f t d o w =
     let s = tom_spec t in
     let x = of_int binary32 d ⊘ k8388608 in
-    let e = excite_of o.det o.quiet d w in
+    let e = excite_of d o w in
     let cv = word_f f s.tune in
-    let hz = hz_of cv e.det in
+    let hz = hz_of cv e.x.det in
     let die = o.y1 ⊗ k0p99 in
     let y = ring_of o hz (decay_of (signed_f f s.decay ⊘ k32767)) x in
     cond (le k65535 cv || lt hz k10)
-    (record { tom = record { y1 = die; y2 = o.y2 ⊗ k0p99; det = e.det; quiet = e.quiet }; w = e.w; y = die })
-    (record { tom = record { y1 = y; y2 = o.y1; det = e.det; quiet = e.quiet }; w = e.w; y = y })
+    (record { tom = record { y1 = die; y2 = o.y2 ⊗ k0p99; det = e.x.det; quiet = e.x.quiet }; w = e.w; y = die })
+    (record { tom = record { y1 = y; y2 = o.y1; det = e.x.det; quiet = e.x.quiet }; w = e.w; y = y })

@@ -1,4 +1,4 @@
-use Prim.Native.Nat.{◌+◌, ◌*◌, ◌-◌, ◌≤◌}
+use Prim.Native.Nat.{◌+◌, ◌*◌, ◌≤◌}
 use mathlib.Core.Path.{◌≡◌}
 use Rattle.frame.specs.Frame.{field_at}
 use Rattle.lists.specs.Turns.{turns_of}
@@ -6,7 +6,4 @@ use Rattle.metal.specs.Metal.{turn_of}
 use Rattle.metal.proofs.run.Given as goal
 
 abbrev pub invariant-loop-k : goal.invariant-loop-k
-invariant-loop-k l = (l.k ≤ 6) × (l.b.running ≤ l.k) × (l.b ≡ turns_of l.k (λ i x. turn_of (field_at l.f (l.o + 4 * i)) l.det l.skip i x) l.initial.b)
-
-abbrev pub decreases-loop-k : goal.decreases-loop-k
-decreases-loop-k l = 6 - l.k
+invariant-loop-k l = (l.b.running ≤ l.k) × (l.b ≡ turns_of l.k (λ i x. turn_of (field_at l.f (l.o + 4 * i)) l.det l.skip i x) l.initial.b)

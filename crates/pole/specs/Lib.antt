@@ -1,0 +1,2 @@
+-- The definition that the contract of `pole` cites.
+pub mod Pole

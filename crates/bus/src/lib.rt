@@ -1,11 +1,12 @@
 // From the sources to the main bus: each voice's chain, its receive word and its share of the mix, then the master distortion.
 #![tactic(auto)]
 
-ghost use Rattle.std.specs.Prelude.{◌≡◌, Bool, ◌≤◌, ◌<◌, length, get_or, pos};
-ghost use Rattle.frame.specs.Offsets.{FRAME_BYTES, VCA_R};
+ghost use Rattle.std.specs.Prelude.{◌≡◌, ◌≤◌, ◌<◌};
+ghost use Rattle.frame.specs.Offsets.{VCA_R};
 ghost use Rattle.bus.specs.Bus.{dac_f, return_of, contribution_of, added_of, voices_of, distort_of, master_of};
 
 use chain::Chain;
+use frame::{DacWords, Frame};
 use stereo::Mix;
 
 // The DAC words of the FX returns, left; right follows. Before the master distortion, and after it.
@@ -14,32 +15,36 @@ const DAC_PRE: usize = 12;
 const DAC_POST: usize = 14;
 
 // DAC word i / 2^23.
-fn dac_f32(dac: &[i32], i: usize) -> f32
-    requires { i < length dac.now }
+#[tactic(auto, unfolding(crate::specs::Bus::dac_f))]
+fn dac_f32(dac: &DacWords, i: usize) -> f32
+    requires { i < 16 }
     ensures { result ≡ dac_f dac.now i }
 {
-    float::from_i32(dac[i]) / 8388608.0
+    float::from_i32(dac.as_slice()[i]) / 8388608.0
 }
 
-// An FX return: DAC word i negated, / 2^23.
-fn returned(dac: &[i32], i: usize) -> f32
-    requires { i < length dac.now }
+// An FX return: DAC word i negated, / 2^23, in the source's order. As `dac_f32` negated it is equal by a law of rounding only, and the proof did not close.
+#[tactic(auto, unfolding(crate::specs::Bus::return_of))]
+fn returned(dac: &DacWords, i: usize) -> f32
+    requires { i < 16 }
     ensures { result ≡ return_of dac.now i }
 {
-    -float::from_i32(dac[i]) / 8388608.0
+    -float::from_i32(dac.as_slice()[i]) / 8388608.0
 }
 
 // What voice v adds to a side, whose VCA words stand from `vca` on.
-fn contribution(f: &[u8], vca: usize, v: usize, y: f32) -> f32
-    requires { (FRAME_BYTES ≤ length f.now) × (vca ≤ VCA_R) × (v < 8) }
+#[tactic(auto, unfolding(crate::specs::Bus::contribution_of))]
+fn contribution(f: &Frame, vca: usize, v: usize, y: f32) -> f32
+    requires { (vca ≤ VCA_R) × (v < 8) }
     ensures { result ≡ contribution_of f.now vca v y }
 {
-    y * frame::word_f32(f, vca + 2 * v) / 32767.0
+    y * frame::word_f32(f.as_slice(), vca + 2 * v) / 32767.0
 }
 
 // The mix with voice v's sample, unless it is routed off.
-fn added(f: &[u8], v: usize, m: Mix, y: f32) -> Mix
-    requires { (FRAME_BYTES ≤ length f.now) × (v < 8) }
+#[tactic(auto, unfolding(crate::specs::Bus::added_of))]
+fn added(f: &Frame, v: usize, m: Mix, y: f32) -> Mix
+    requires { v < 8 }
     ensures { result ≡ added_of f.now v m y }
 {
     if frame::routed_off(f, v) {
@@ -60,34 +65,32 @@ pub struct Bus {
 }
 
 // Voices 0 to 7 in turn: each one's source and its DAC word through its chain.
-pub fn voices(chains: [Chain; 8], f: &[u8], dac: &[i32], src: [f32; 8]) -> Bus
-    requires { (FRAME_BYTES ≤ length f.now) × (16 ≤ length dac.now) }
+#[tactic(auto, unfolding(lists::specs::Turns::turns_of, crate::specs::Bus::input_of, crate::specs::Bus::turn_of, crate::specs::Bus::voices_of))]
+pub fn voices(mut chains: [Chain; 8], f: &Frame, dac: &DacWords, src: [f32; 8]) -> Bus
     ensures { result ≡ voices_of f.now dac.now src chains }
 {
-    let mut chains = chains;
     let mut rx: [i32; 12] = [0; 12];
     let mut mix = Mix { l: 0.0, r: 0.0 };
-    let mut v: usize = 0;
-    while v < 8 {
+    for v in 0..8 {
         let x = src[v] + dac_f32(dac, v) * 0.5;
-        let c = chains[v];
-        let o = c.process(f, v, x);
-        let chain = o.chain;
-        chains[v] = chain;
-        let w = float::to24(o.y * 0.5);
-        rx[v] = w;
+        let o = chains[v].process(f, v, x);
+        chains[v] = o.chain;
+        rx[v] = float::to24(o.y * 0.5);
         mix = added(f, v, mix, o.y);
-        v += 1;
     }
     Bus { chains, rx, mix }
 }
 
 // The master distortion, of the amount word 0.
-fn distort(f: &[u8], m: Mix) -> Mix
-    requires { FRAME_BYTES ≤ length f.now }
+#[tactic(auto, unfolding(crate::specs::Bus::distort_of))]
+fn distort(f: &Frame, m: Mix) -> Mix
     ensures { result ≡ distort_of f.now m }
 {
-    let dist = float::clamp(frame::word_f32(f, frame::DIST) / 65536.0, 0.0, 1.0);
+    let dist = float::clamp(
+        frame::word_f32(f.as_slice(), frame::DIST) / 65536.0,
+        0.0,
+        1.0,
+    );
     if 0.0 < dist {
         let k = 1.0 + 15.0 * dist;
         let n = tanh::tanh(k);
@@ -100,8 +103,8 @@ fn distort(f: &[u8], m: Mix) -> Mix
 }
 
 // The FX returns before and after the distortion, written negated, and the external input.
-pub fn master(f: &[u8], dac: &[i32], m: Mix, ext: Mix) -> Mix
-    requires { (FRAME_BYTES ≤ length f.now) × (16 ≤ length dac.now) }
+#[tactic(auto, unfolding(crate::specs::Bus::master_of))]
+pub fn master(f: &Frame, dac: &DacWords, m: Mix, ext: Mix) -> Mix
     ensures { result ≡ master_of f.now dac.now m ext }
 {
     let pre = Mix {

@@ -1,12 +1,11 @@
 // A voice's own chain after its source: overdrive, multimode filter under its envelope, amp.
 #![tactic(auto)]
 
-ghost use Rattle.std.specs.Prelude.{◌≡◌, Bool, ◌≤◌, ◌<◌, length};
-ghost use Rattle.frame.specs.Offsets.{FRAME_BYTES};
-ghost use Rattle.chain.specs.Chain.{chain_new, drive_of, cutoff_of, res_of, coefs_of, multimode_of, lp1_of, pick_of, finite_or, gain_of, settings_of, filter_of, process_of};
+ghost use Rattle.std.specs.Prelude.{◌≡◌, ◌<◌};
+ghost use Rattle.chain.specs.Chain.{chain_new, drive_of, cutoff_of, res_of, coefs_of, multimode_of, lp1_of, pick_of, finite_or, settings_of, filter_of, process_of};
 
 use envelope::SegEnv;
-use frame::FltType;
+use frame::{FltType, Frame};
 
 #[repr(C)]
 #[derive(Clone, Copy)]
@@ -19,6 +18,8 @@ pub struct Chain {
     pub lp1: f32,
 }
 
+// A chain after its sample, and the sample. Each state has such a struct of its own, whose fields say what they are; a generic one would
+// name them first and second.
 #[derive(Clone, Copy)]
 pub struct ChainOut {
     pub chain: Chain,
@@ -39,23 +40,26 @@ pub struct Settings {
 }
 
 impl Settings {
-    fn read(f: &[u8], v: usize) -> Settings
-        requires { (FRAME_BYTES ≤ length f.now) × (v < 8) }
+    #[tactic(auto, unfolding(crate::specs::Chain::settings_of))]
+    fn read(f: &Frame, v: usize) -> Settings
+        requires { v < 8 }
         ensures { result ≡ settings_of f.now v }
     {
+        let bytes = f.as_slice();
         Settings {
-            ovr: frame::word_f32(f, frame::OVR + 2 * v),
-            frq: frame::signed_f32(f, frame::FRQ + 2 * v),
-            depth: frame::signed_f32(f, frame::FLT_ENV + 8 * v),
-            res: frame::word_f32(f, frame::RES + 2 * v),
-            kind: FltType::from_code(frame::flt_code(f, v)),
-            ra: frame::bytes(f, frame::AMP_ENV + 8 * v),
-            rf: frame::bytes(f, frame::FLT_ENV + 8 * v),
+            ovr: frame::word_f32(bytes, frame::OVR + 2 * v),
+            frq: frame::signed_f32(bytes, frame::FRQ + 2 * v),
+            depth: frame::signed_f32(bytes, frame::FLT_ENV + 8 * v),
+            res: frame::word_f32(bytes, frame::RES + 2 * v),
+            kind: FltType::from(frame::flt_code(f, v)),
+            ra: frame::bytes(bytes, frame::AMP_ENV + 8 * v),
+            rf: frame::bytes(bytes, frame::FLT_ENV + 8 * v),
         }
     }
 }
 
 // OVR 0 is clean, full scale about 18 dB of drive into a soft clip.
+#[tactic(auto, unfolding(crate::specs::Chain::drive_of))]
 fn overdrive(word: f32, x: f32) -> f32
     ensures { result ≡ drive_of word x }
 {
@@ -68,6 +72,7 @@ fn overdrive(word: f32, x: f32) -> f32
 }
 
 // The cutoff in Hz: FRQ plus the envelope, one semitone a step, 440 Hz at 60.
+#[tactic(auto, unfolding(crate::specs::Chain::cutoff_of))]
 pub fn cutoff(frq: f32, depth: f32, level: f32) -> f32
     ensures { result ≡ cutoff_of frq depth level }
 {
@@ -76,6 +81,7 @@ pub fn cutoff(frq: f32, depth: f32, level: f32) -> f32
     float::clamp(440.0 * power::exp2((n - 60.0) / 12.0), 10.0, 22000.0)
 }
 
+#[tactic(auto, unfolding(crate::specs::Chain::res_of))]
 fn resonance(word: f32) -> f32
     ensures { result ≡ res_of word }
 {
@@ -91,6 +97,7 @@ pub struct Coefs {
     pub a3: f32,
 }
 
+#[tactic(auto, unfolding(crate::specs::Chain::coefs_of))]
 fn coefficients(fc: f32, res: f32) -> Coefs
     ensures { result ≡ coefs_of fc res }
 {
@@ -116,6 +123,7 @@ pub struct Multimode {
 }
 
 // A topology-preserving state-variable filter.
+#[tactic(auto, unfolding(crate::specs::Chain::multimode_of))]
 fn filter(low: f32, band: f32, x: f32, c: Coefs) -> Multimode
     ensures { result ≡ multimode_of low band x c }
 {
@@ -131,14 +139,8 @@ fn filter(low: f32, band: f32, x: f32, c: Coefs) -> Multimode
     }
 }
 
-fn one_pole(lp1: f32, x: f32, fc: f32) -> f32
-    ensures { result ≡ lp1_of lp1 x fc }
-{
-    let a = 1.0 - power::exp(-float::TAU * fc / float::FS);
-    lp1 + a * (x - lp1)
-}
-
 // The output of the filter's type.
+#[tactic(auto, unfolding(crate::specs::Chain::pick_of))]
 fn pick(kind: FltType, s: Multimode, lp1: f32, x: f32, k: f32, res: f32) -> f32
     ensures { result ≡ pick_of kind s lp1 x k res }
 {
@@ -162,6 +164,7 @@ pub struct Filtered {
     pub y: f32,
 }
 
+#[tactic(auto, unfolding(crate::specs::Chain::finite_or))]
 fn replace(s: Multimode, lp1: f32, y: f32) -> Filtered
     ensures { result ≡ finite_or s lp1 y }
 {
@@ -182,28 +185,19 @@ fn replace(s: Multimode, lp1: f32, y: f32) -> Filtered
 }
 
 // The filter of a chain with cutoff fc, on the driven sample x.
+#[tactic(auto, unfolding(crate::specs::Chain::filter_of, crate::specs::Chain::lp1_of))]
 fn run_filter(c: Chain, i: Settings, fc: f32, x: f32) -> Filtered
     ensures { result ≡ filter_of c i fc x }
 {
     let res = resonance(i.res);
     let q = coefficients(fc, res);
     let s = filter(c.low, c.band, x, q);
-    let lp1 = one_pole(c.lp1, x, fc);
-    let kind = i.kind;
-    replace(s, lp1, pick(kind, s, lp1, x, q.k, res))
-}
-
-// 127 is full scale, logarithmic below, 0 and under silent.
-fn gain(level: f32) -> f32
-    ensures { result ≡ gain_of level }
-{
-    if level <= 0.0 {
-        return 0.0;
-    }
-    power::exp2((level - 127.0) / float::LEVELS_PER_6DB)
+    let lp1 = pole::one_pole(c.lp1, x, fc);
+    replace(s, lp1, pick(i.kind, s, lp1, x, q.k, res))
 }
 
 impl Chain {
+    #[tactic(auto, unfolding(crate::specs::Chain::chain_new))]
     pub fn new() -> Chain
         ensures { result ≡ chain_new }
     {
@@ -226,16 +220,15 @@ impl Chain {
         }
     }
 
-    // One sample of voice v's chain.
-    pub fn process(self, f: &[u8], v: usize, x: f32) -> ChainOut
-        requires { (FRAME_BYTES ≤ length f.now) × (v < 8) }
+    // One sample of voice v's chain. A type for the numbers below 8 would be no plainer: a loop makes v, and each offset multiplies it.
+    #[tactic(auto, unfolding(crate::specs::Chain::process_of, crate::specs::Chain::gain_of))]
+    pub fn process(self, f: &Frame, v: usize, x: f32) -> ChainOut
+        requires { v < 8 }
         ensures { result ≡ process_of f.now v x self }
     {
         let i = Settings::read(f, v);
-        let rf = i.rf;
-        let ra = i.ra;
-        let flt = self.flt.filter(rf);
-        let amp = self.amp.amp(ra);
+        let flt = self.flt.filter(i.rf);
+        let amp = self.amp.amp(i.ra);
         let fc = cutoff(i.frq, i.depth, flt.level);
         let s = run_filter(self, i, fc, overdrive(i.ovr, x));
         ChainOut {
@@ -246,7 +239,7 @@ impl Chain {
                 band: s.band,
                 lp1: s.lp1,
             },
-            y: s.y * gain(amp.level),
+            y: s.y * envelope::gain(amp.level, 0.0),
         }
     }
 }

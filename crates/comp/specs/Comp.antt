@@ -14,6 +14,8 @@ use Rattle.comp.specs.declared.Sc.{Sc}
 use Rattle.comp.specs.declared.Comp.{Comp}
 use Rattle.comp.specs.declared.CompOut.{CompOut}
 use Rattle.comp.specs.declared.Settings.{Settings}
+use Rattle.comp.specs.declared.Sidechain.{Sidechain}
+use Rattle.comp.specs.declared.Sidechain.TheVariants.{Off, Lpf, Hpf, Hit}
 
 -- `Comp::default`
 unfoldable pub comp_new : Comp
@@ -23,13 +25,17 @@ comp_new = record { env = k0; sc = record { lo = k0; hi = k0 } }
 abbrev pub number_at : List ℕ → ℕ → Float
 number_at p o = of_int binary32 (pos (get_or p o 0))
 
+-- the sidechain by SEQ: 1 low-passed, 2 high-passed, 3 HIT, else the peak
+unfoldable pub seq_of : ℕ → Sidechain
+seq_of seq = cond (eqb seq 1) Lpf (cond (eqb seq 2) Hpf (cond (eqb seq 3) Hit Off))
+
 unfoldable pub settings_of : List ℕ → Settings
 settings_of p = record {
   thr = number_at p 6;
   atk = get_or p 8 0;
   rel = get_or p 10 0;
   rat = get_or p 12 0;
-  seq = get_or p 14 0;
+  seq = seq_of (get_or p 14 0);
   mup = number_at p 16;
   mix = number_at p 18;
   vol = number_at p 20;
@@ -51,11 +57,12 @@ pole_of hz = k1 ⊖ exp_of (neg TAU ⊗ hz ⊘ FS)
 unfoldable pub sidechain_of : Sc → Float → Sc
 sidechain_of sc s = record { lo = sc.lo ⊕ pole_of k400 ⊗ (s ⊖ sc.lo); hi = sc.hi ⊕ pole_of k2500 ⊗ (s ⊖ sc.hi) }
 
--- what the detector follows, by SEQ: 1 low-passed, 2 high-passed, 3 HIT, else the peak
-unfoldable pub detect_of : ℕ → Float → Float → Sc → Float
-detect_of seq x s sc =
-    cond (eqb seq 1) (abs_of sc.lo ⊗ k1p6)
-    (cond (eqb seq 2) (abs_of (s ⊖ sc.lo)) (cond (eqb seq 3) (abs_of (s ⊖ sc.hi) ⊗ k1p6) x))
+-- what the detector follows, by its sidechain
+unfoldable pub detect_of : Sidechain → Float → Float → Sc → Float
+detect_of Lpf x s sc = abs_of sc.lo ⊗ k1p6
+detect_of Hpf x s sc = abs_of (s ⊖ sc.lo)
+detect_of Hit x s sc = abs_of (s ⊖ sc.hi) ⊗ k1p6
+detect_of Off x s sc = x
 
 -- what a sample keeps of the envelope, of a time in seconds
 unfoldable pub coef_of : Float → Float

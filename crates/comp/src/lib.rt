@@ -1,13 +1,14 @@
 // The master compressor: a peak detector with its sidechain filter, a static curve with a soft knee, make-up, dry against wet, volume.
 #![tactic(auto)]
 
-ghost use Rattle.std.specs.Prelude.{◌≡◌, Bool, ◌≤◌, ◌<◌, length};
+ghost use Rattle.std.specs.Prelude.{◌≡◌, Bool, ◌<◌};
 ghost use Rattle.float.specs.Consts.{k0p45};
 ghost use Rattle.float.specs.Ops.{◌⊗◌, ◌⊘◌};
 ghost use Rattle.comp.specs.Consts.{k1000};
 ghost use Rattle.comp.specs.Tables.{attack_of, release_of, ratio_of, vol_row};
-ghost use Rattle.comp.specs.Comp.{comp_new, settings_of, peak_of, side_of, pole_of, sidechain_of, detect_of, coef_of, smooth_of, follow_of, level_of, soft_of, reduction_of, mup_db, makeup_of, vol_first, vol_turn, vol_of, db_of, gain_of, process_of};
+ghost use Rattle.comp.specs.Comp.{comp_new, settings_of, peak_of, side_of, pole_of, sidechain_of, seq_of, detect_of, coef_of, smooth_of, follow_of, level_of, soft_of, reduction_of, mup_db, makeup_of, vol_first, vol_turn, vol_of, db_of, gain_of, process_of};
 
+use slices::AtLeast;
 use stereo::Mix;
 
 // The sidechain's two low-passes.
@@ -25,17 +26,18 @@ pub struct Comp {
     pub sc: Sc,
 }
 
+// As `ChainOut`.
 #[derive(Clone, Copy)]
 pub struct CompOut {
     pub comp: Comp,
     pub mix: Mix,
 }
 
-const COMP_ATK_MS: [f32; 7] = [0.03, 0.1, 0.3, 1.0, 3.0, 10.0, 30.0];
+static COMP_ATK_MS: [f32; 7] = [0.03, 0.1, 0.3, 1.0, 3.0, 10.0, 30.0];
 
-const COMP_REL_S: [f32; 8] = [0.1, 0.2, 0.4, 0.6, 1.0, 2.0, 0.4, 0.6];
+static COMP_REL_S: [f32; 8] = [0.1, 0.2, 0.4, 0.6, 1.0, 2.0, 0.4, 0.6];
 
-const COMP_RATIO: [f32; 4] = [10.0, 6.0, 3.5, 2.5];
+static COMP_RATIO: [f32; 4] = [10.0, 6.0, 3.5, 2.5];
 
 // A row of VOL: the dry gain in dB under that of 127, and wet minus dry, which nothing reads.
 #[derive(Clone, Copy)]
@@ -45,7 +47,7 @@ pub struct VolRow {
     pub wet: f32,
 }
 
-const COMP_VOL: [VolRow; 9] = [
+static COMP_VOL: [VolRow; 9] = [
     VolRow {
         vol: 40.0,
         dry: -10.85,
@@ -94,71 +96,69 @@ const COMP_VOL: [VolRow; 9] = [
 ];
 
 // What a sample keeps of the envelope, of a time in seconds.
+#[tactic(auto, unfolding(crate::specs::Comp::coef_of))]
 fn coef(t: f32) -> f32
     ensures { result ≡ coef_of t }
 {
-    power::exp(-1.0 / (float::max(t, 0.00001) * float::FS))
+    pole::kept(float::max(t, 0.00001))
 }
 
-// The tables, each by its parameter's byte; past the end the last. An entry is read by its number written out: an index that is not
-// known copies the array, and of a known time the coefficient is a constant.
+// The tables, each by its parameter's byte; past the end the last.
+#[tactic(auto, unfolding(crate::specs::Tables::attack_of, crate::specs::Tables::attacks))]
 fn attack(b: u8) -> f32
     ensures { result ≡ coef_of (attack_of b ⊘ k1000) }
 {
-    match b {
-        0 => coef(COMP_ATK_MS[0] / 1000.0),
-        1 => coef(COMP_ATK_MS[1] / 1000.0),
-        2 => coef(COMP_ATK_MS[2] / 1000.0),
-        3 => coef(COMP_ATK_MS[3] / 1000.0),
-        4 => coef(COMP_ATK_MS[4] / 1000.0),
-        5 => coef(COMP_ATK_MS[5] / 1000.0),
-        _ => coef(COMP_ATK_MS[6] / 1000.0),
-    }
+    coef(COMP_ATK_MS[usize::from(b.min(6))] / 1000.0)
 }
 
+#[tactic(auto, unfolding(crate::specs::Tables::release_of, crate::specs::Tables::releases))]
 fn release(b: u8) -> f32
     ensures { result ≡ coef_of (k0p45 ⊗ release_of b) }
 {
-    match b {
-        0 => coef(0.45 * COMP_REL_S[0]),
-        1 => coef(0.45 * COMP_REL_S[1]),
-        2 => coef(0.45 * COMP_REL_S[2]),
-        3 => coef(0.45 * COMP_REL_S[3]),
-        4 => coef(0.45 * COMP_REL_S[4]),
-        5 => coef(0.45 * COMP_REL_S[5]),
-        6 => coef(0.45 * COMP_REL_S[6]),
-        _ => coef(0.45 * COMP_REL_S[7]),
-    }
+    coef(0.45 * COMP_REL_S[usize::from(b.min(7))])
 }
 
+#[tactic(auto, unfolding(crate::specs::Tables::ratio_of, crate::specs::Tables::ratios))]
 fn ratio(b: u8) -> f32
     ensures { result ≡ ratio_of b }
 {
-    match b {
-        0 => COMP_RATIO[0],
-        1 => COMP_RATIO[1],
-        2 => COMP_RATIO[2],
-        _ => COMP_RATIO[3],
-    }
+    COMP_RATIO[usize::from(b.min(3))]
 }
 
 fn vol_row(i: usize) -> VolRow
     ensures { result ≡ vol_row i }
 {
-    match i {
-        0 => COMP_VOL[0],
-        1 => COMP_VOL[1],
-        2 => COMP_VOL[2],
-        3 => COMP_VOL[3],
-        4 => COMP_VOL[4],
-        5 => COMP_VOL[5],
-        6 => COMP_VOL[6],
-        7 => COMP_VOL[7],
-        _ => COMP_VOL[8],
-    }
+    COMP_VOL[i.min(8)]
 }
 
 // ---- parameters
+
+// The FX parameters, as far as the compressor's go.
+pub type Parameters<'a> = AtLeast<'a, u8, 24>;
+
+// What the detector hears: SEQ 1 LPF, 2 HPF, 3 HIT (a weighting of high frequencies), else OFF.
+#[derive(Clone, Copy)]
+pub enum Sidechain {
+    Off,
+    Lpf,
+    Hpf,
+    Hit,
+}
+
+impl From<u8> for Sidechain {
+    // Of SEQ.
+    ghost from_gives = { λ seq kind. kind ≡ seq_of seq };
+
+    #[tactic(auto, unfolding(crate::specs::Comp::seq_of))]
+    fn from(seq: u8) -> Sidechain {
+        match seq {
+            1 => Sidechain::Lpf,
+            2 => Sidechain::Hpf,
+            3 => Sidechain::Hit,
+            _ => Sidechain::Off,
+        }
+    }
+}
 
 // What the compressor reads off the FX parameters: of each 8.8 word the whole part.
 #[derive(Clone, Copy)]
@@ -167,23 +167,24 @@ pub struct Settings {
     pub atk: u8,
     pub rel: u8,
     pub rat: u8,
-    pub seq: u8,
+    pub seq: Sidechain,
     pub mup: f32,
     pub mix: f32,
     pub vol: f32,
 }
 
 impl Settings {
-    fn read(p: &[u8]) -> Settings
-        requires { 24 ≤ length p.now }
+    #[tactic(auto, unfolding(crate::specs::Comp::settings_of))]
+    fn read(p: &Parameters) -> Settings
         ensures { result ≡ settings_of p.now }
     {
+        let p = p.as_slice();
         Settings {
             thr: p[6] as f32,
             atk: p[8],
             rel: p[10],
             rat: p[12],
-            seq: p[14],
+            seq: Sidechain::from(p[14]),
             mup: p[16] as f32,
             mix: p[18] as f32,
             vol: p[20] as f32,
@@ -193,50 +194,45 @@ impl Settings {
 
 // ---- detector
 
-fn peak(l: f32, r: f32) -> f32
-    ensures { result ≡ peak_of l r }
+#[tactic(auto, unfolding(crate::specs::Comp::peak_of))]
+fn peak(m: Mix) -> f32
+    ensures { result ≡ peak_of m.l m.r }
 {
-    float::max(float::abs(l), float::abs(r))
+    float::max(float::abs(m.l), float::abs(m.r))
 }
 
 // The peak x with a sign, for the sidechain's filters.
-fn side(x: f32, l: f32, r: f32) -> f32
-    ensures { result ≡ side_of x l r }
+#[tactic(auto, unfolding(crate::specs::Comp::side_of))]
+fn side(x: f32, m: Mix) -> f32
+    ensures { result ≡ side_of x m.l m.r }
 {
-    x * float::max(float::signum(l), float::signum(r))
-}
-
-// A one-pole low-pass: how far a sample moves it.
-fn pole(hz: f32) -> f32
-    ensures { result ≡ pole_of hz }
-{
-    1.0 - power::exp(-float::TAU * hz / float::FS)
+    x * float::max(float::signum(m.l), float::signum(m.r))
 }
 
 // The low-passes at 400 and 2500 Hz.
-fn sidechain(sc: Sc, s: f32) -> Sc
+#[tactic(auto, unfolding(crate::specs::Comp::sidechain_of, crate::specs::Comp::pole_of))]
+fn low_passes(sc: Sc, s: f32) -> Sc
     ensures { result ≡ sidechain_of sc s }
 {
-    let a_lo = pole(400.0);
-    let a_hi = pole(2500.0);
     Sc {
-        lo: sc.lo + a_lo * (s - sc.lo),
-        hi: sc.hi + a_hi * (s - sc.hi),
+        lo: pole::one_pole(sc.lo, s, 400.0),
+        hi: pole::one_pole(sc.hi, s, 2500.0),
     }
 }
 
-// SEQ 1 LPF, 2 HPF, 3 HIT (a weighting of high frequencies), else OFF.
-fn detect(seq: u8, x: f32, s: f32, sc: Sc) -> f32
+#[tactic(auto, unfolding(crate::specs::Comp::detect_of))]
+fn detect(seq: Sidechain, x: f32, s: f32, sc: Sc) -> f32
     ensures { result ≡ detect_of seq x s sc }
 {
     match seq {
-        1 => float::abs(sc.lo) * 1.6,
-        2 => float::abs(s - sc.lo),
-        3 => float::abs(s - sc.hi) * 1.6,
-        _ => x,
+        Sidechain::Lpf => float::abs(sc.lo) * 1.6,
+        Sidechain::Hpf => float::abs(s - sc.lo),
+        Sidechain::Hit => float::abs(s - sc.hi) * 1.6,
+        Sidechain::Off => x,
     }
 }
 
+#[tactic(auto, unfolding(crate::specs::Comp::smooth_of))]
 fn smooth(rises: bool, atk: u8, rel: u8) -> f32
     ensures { result ≡ smooth_of rises atk rel }
 {
@@ -246,6 +242,7 @@ fn smooth(rises: bool, atk: u8, rel: u8) -> f32
     release(rel)
 }
 
+#[tactic(auto, unfolding(crate::specs::Comp::follow_of))]
 fn follow(env: f32, det: f32, atk: u8, rel: u8) -> f32
     ensures { result ≡ follow_of env det atk rel }
 {
@@ -255,6 +252,7 @@ fn follow(env: f32, det: f32, atk: u8, rel: u8) -> f32
 
 // ---- gains, in dB
 
+#[tactic(auto, unfolding(crate::specs::Comp::level_of))]
 fn level(env: f32) -> f32
     ensures { result ≡ level_of env }
 {
@@ -262,6 +260,7 @@ fn level(env: f32) -> f32
 }
 
 // What the knee lets through of a level over the threshold.
+#[tactic(auto, unfolding(crate::specs::Comp::soft_of))]
 fn soft(over: f32) -> f32
     ensures { result ≡ soft_of over }
 {
@@ -276,6 +275,7 @@ fn soft(over: f32) -> f32
     d * d / (2.0 * knee)
 }
 
+#[tactic(auto, unfolding(crate::specs::Comp::reduction_of))]
 fn reduction(env: f32, thr: f32, rat: u8) -> f32
     ensures { result ≡ reduction_of env thr rat }
 {
@@ -283,6 +283,7 @@ fn reduction(env: f32, thr: f32, rat: u8) -> f32
     soft(level(env) - t_db) * (1.0 - 1.0 / ratio(rat))
 }
 
+#[tactic(auto, unfolding(crate::specs::Comp::mup_db))]
 fn mup_db(m: f32) -> f32
     ensures { result ≡ mup_db m }
 {
@@ -293,6 +294,7 @@ fn mup_db(m: f32) -> f32
 }
 
 // The make-up, anchored so that MUP 47 leaves the wet path at unity.
+#[tactic(auto, unfolding(crate::specs::Comp::makeup_of))]
 fn makeup(m: f32) -> f32
     ensures { result ≡ makeup_of m }
 {
@@ -300,6 +302,7 @@ fn makeup(m: f32) -> f32
 }
 
 // The first row, extended below by 0.2 dB a step.
+#[tactic(auto, unfolding(crate::specs::Comp::vol_first))]
 fn vol_first(vol: f32) -> f32
     ensures { result ≡ vol_first vol }
 {
@@ -311,6 +314,7 @@ fn vol_first(vol: f32) -> f32
 }
 
 // The line from row i to the next, where VOL lies on it.
+#[tactic(auto, unfolding(crate::specs::Comp::vol_turn))]
 fn vol_turn(out: f32, i: usize, vol: f32) -> f32
     requires { i < 8 }
     ensures { result ≡ vol_turn vol i out }
@@ -324,18 +328,18 @@ fn vol_turn(out: f32, i: usize, vol: f32) -> f32
     out
 }
 
+#[tactic(auto, unfolding(lists::specs::Turns::turns_of, crate::specs::Comp::vol_of))]
 fn vol_db(vol: f32) -> f32
     ensures { result ≡ vol_of vol }
 {
     let mut out = vol_first(vol);
-    let mut i: usize = 0;
-    while i < 8 {
+    for i in 0..8 {
         out = vol_turn(out, i, vol);
-        i += 1;
     }
     out
 }
 
+#[tactic(auto, unfolding(crate::specs::Comp::db_of))]
 fn db(x: f32) -> f32
     ensures { result ≡ db_of x }
 {
@@ -343,6 +347,7 @@ fn db(x: f32) -> f32
 }
 
 // The crossfade of MIX, of the two gains in dB.
+#[tactic(auto, unfolding(crate::specs::Comp::gain_of))]
 fn gain(dry: f32, wet: f32, mix: f32) -> f32
     ensures { result ≡ gain_of dry wet mix }
 {
@@ -351,6 +356,7 @@ fn gain(dry: f32, wet: f32, mix: f32) -> f32
 }
 
 impl Comp {
+    #[tactic(auto, unfolding(crate::specs::Comp::comp_new))]
     pub fn new() -> Comp
         ensures { result ≡ comp_new }
     {
@@ -361,15 +367,14 @@ impl Comp {
     }
 
     // One sample of the mix, by the FX parameters.
-    pub fn process(self, p: &[u8], l: f32, r: f32) -> CompOut
-        requires { 24 ≤ length p.now }
-        ensures { result ≡ process_of p.now l r self }
+    #[tactic(auto, unfolding(crate::specs::Comp::process_of))]
+    pub fn process(self, p: &Parameters, m: Mix) -> CompOut
+        ensures { result ≡ process_of p.now m.l m.r self }
     {
         let i = Settings::read(p);
-        let x = peak(l, r);
-        let s = side(x, l, r);
-        let was = self.sc;
-        let sc = sidechain(was, s);
+        let x = peak(m);
+        let s = side(x, m);
+        let sc = low_passes(self.sc, s);
         let det = detect(i.seq, x, s, sc);
         let env = follow(self.env, det, i.atk, i.rel);
         let gr = reduction(env, i.thr, i.rat);
@@ -377,7 +382,10 @@ impl Comp {
         let g = gain(dry, dry - gr + makeup(i.mup), i.mix);
         CompOut {
             comp: Comp { env, sc },
-            mix: Mix { l: l * g, r: r * g },
+            mix: Mix {
+                l: m.l * g,
+                r: m.r * g,
+            },
         }
     }
 }

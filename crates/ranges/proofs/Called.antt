@@ -38,11 +38,11 @@ use Rattle.ranges.specs.Arguments.{detune, drift, turn, asym_turn, gain, hat_fil
 pub record Called : Type 0 where
   -- the oscillators
   pub detuned : (w : Wobble) → (detune_of w DETUNE_CENTS).x ≡ exp2_of (detune w)
-  pub drifted : (d : Drift) (w : Wobble) → ltb d.n (DRIFT_EVERY - 1) ≡ false → (drift_of d w).drift.ratio ≡ exp2_of (drift d w)
+  pub drifted : (d : Drift) (w : Wobble) → ltb d.n (DRIFT_EVERY - 1) ≡ false → (drift_of d w).x.ratio ≡ exp2_of (drift d w)
   pub sine : (p : Float) → wave_at Sine p ≡ sin_of (turn p)
   pub sinesaw : (p : Float) → wave_at SineSaw p ≡ k0p7 ⊗ sin_of (turn p) ⊕ k0p3 ⊗ (k2 ⊗ p ⊖ k1)
   pub asym : (p : Float) → wave_at AsymSine p ≡ sin_of (asym_turn p)
-  pub plain : (i : Settings) (p q f1 f2 : Float) → (Dual.plain_of i p q f1 f2).y
+  pub plain : (i : Settings) (p q hz1 hz2 : Float) → (Dual.plain_of i (record { ph1 = p; ph2 = q }) hz1 hz2).y
       ≡ cond i.wave1 (k0p7 ⊗ sin_of (turn p) ⊕ k0p3 ⊗ (k2 ⊗ p ⊖ k1)) (sin_of (turn p)) ⊗ Dual.word_level i.level1 ⊕ sin_of (turn q) ⊗ Dual.word_level i.level2
   pub dual_gain : (x : Float) → Dual.gain_of x ≡ cond (le x k_m127p5) k0 (exp2_of (gain x))
   -- hat and cymbal
@@ -83,7 +83,7 @@ called = record {
   sine = λ p. refl;
   sinesaw = λ p. refl;
   asym = λ p. refl;
-  plain = λ i p q f1 f2. refl;
+  plain = λ i p q hz1 hz2. refl;
   dual_gain = λ x. refl;
   hat_colour_lem = λ f. refl;
   hat_gain = λ f h w. refl;

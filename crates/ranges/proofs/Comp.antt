@@ -12,11 +12,11 @@ use lib.Ieee.Fits.{and_l, and_r}
 use Rattle.line.proofs.Range.{In, in_cond}
 use Rattle.line.proofs.Whole.{of_int_in}
 use Rattle.lists.proofs.Sweep.{turns_keep}
+use Rattle.lists.proofs.Table.{every, at}
 use Rattle.float.specs.Consts.{k0, k10, k256, k440, k22000, k0p45}
 use Rattle.float.specs.Ops.{◌⊖◌, ◌⊗◌, ◌⊘◌}
 use Rattle.float.specs.Floats.{max_of}
 use Rattle.float.proofs.Eval.{Ex, leaf, con, plus, minus, times, over, range, proves}
-use Rattle.frame.proofs.Tables.{every, every_at}
 use Rattle.fixed.proofs.Order.{not_lt, a_number}
 use Rattle.power.specs.Power.{zero_f, exp_low, ten_low, ten_high}
 use Rattle.log10.specs.Log10.{least}
@@ -39,10 +39,10 @@ high_pole_call = pole_call k2500 (unfold of_bits proves in range k10 k22000 (con
 abbrev holds : Float → Bool
 holds t = le exp_low (kept t) && le (kept t) zero_f
 
-entry_in : (g : Float → Float) (xs : List Float) → T (every (λ (a : Float). holds (g a)) xs) → (i : ℕ) → i < length xs → InExp (kept (g (get_or xs i nan)))
+entry_in : (g : Float → Float) (xs : List Float) → T (every (λ _ (a : Float). holds (g a)) 0 xs) → (i : ℕ) → i < length xs → InExp (kept (g (get_or xs i nan)))
 entry_in g xs t i l =
     let x = kept (g (get_or xs i nan)) in
-    let h = every_at (λ (a : Float). holds (g a)) xs nan t i l in
+    let h = at nan (λ _ (a : Float). holds (g a)) xs t i l in
     (and_l (le exp_low x) (le x zero_f) h, and_r (le exp_low x) (le x zero_f) h)
 
 pub attack_call : (b : ℕ) → InExp (kept (attack_of b ⊘ k1000))

@@ -14,7 +14,7 @@ use Rattle.float.proofs.Eval.{leaf, con, minus, times, over, capped, floored, cl
 use Rattle.frame.specs.declared.CymPath.{CymPath}
 use Rattle.frame.specs.Offsets.{HAT_COLOUR, CYM_COLOUR, cym_paths, cym_path}
 use Rattle.frame.specs.Frame.{Bytes, signed_f}
-use Rattle.frame.proofs.Tables.{every_at}
+use Rattle.lists.proofs.Table.{at}
 use Rattle.envelope.specs.Levels.{Level}
 use Rattle.fixed.proofs.Order.{not_lt, a_number}
 use Rattle.power.specs.Power.{zero_f, exp2_of}
@@ -78,7 +78,7 @@ module _ (f : List ℕ) (B : Bytes f) where
   centre_in p body = either (λ (x : Float). In binary32 k500 k16000 x) body k1200 (cym_path p).hz (range k500 k16000 (con k1200) tt) (range k500 k16000 (con (cym_path p).hz) tested)
     where
       tested : T (proves {f = binary32} k500 k16000 (con (cym_path p).hz))
-      tested = unfold cym_path cym_paths in every_at (λ (c : CymPath). proves {f = binary32} k500 k16000 (con c.hz)) cym_paths (record { rec = 0; hz = nan; high = false }) tt (min p 4) (omega arith)
+      tested = unfold cym_path cym_paths in at (record { rec = 0; hz = nan; high = false }) (λ _ (c : CymPath). proves {f = binary32} k500 k16000 (con c.hz)) cym_paths tt (min p 4) (omega arith)
 
   -- a path of the cymbal, its centre moved by the colour or not
   pub cym_filter_call : (p : ℕ) (body fixed : Bool) → InSine (cym_filter (cond body k1200 (cym_path p).hz) fixed (exp2_of (cym_colour f)))

@@ -1,4 +1,3 @@
-use Prim.Native.Nat.{◌≤◌, ◌-◌}
 use mathlib.Core.Path.{◌≡◌}
 use Rattle.lists.specs.Turns.{turns_of}
 use Rattle.bus.specs.declared.Bus.{Bus}
@@ -8,7 +7,4 @@ use Rattle.bus.proofs.voices.Given as goal
 abbrev pub invariant-loop-v : goal.invariant-loop-v
 invariant-loop-v l =
     let now : Bus = record { chains = l.chains; rx = l.rx; mix = l.mix } in
-    (l.v ≤ 8) × (now ≡ turns_of l.v (turn_of l.f l.dac l.src) (record { chains = l.initial.chains; rx = l.initial.rx; mix = l.initial.mix }))
-
-abbrev pub decreases-loop-v : goal.decreases-loop-v
-decreases-loop-v l = 8 - l.v
+    now ≡ turns_of l.v (turn_of l.f l.dac l.src) (record { chains = l.initial.chains; rx = l.initial.rx; mix = l.initial.mix })

@@ -1,5 +1,5 @@
 -- The voice board: a fresh one, the refusals, a step. From `Analog::frame`. Definitions only.
-use Rattle.std.specs.Prelude.{ℕ, ◌+◌, Bool, true, false, cond, ◌&&◌, List, [], ◌∷◌, set, length, replicate, ltb, eqb, ℤ, pos, negsuc, Float}
+use Rattle.std.specs.Prelude.{ℕ, ◌+◌, Bool, true, false, cond, ◌&&◌, List, [], ◌∷◌, set, length, replicate, ltb, eqb, ℤ, pos, negsuc, Float, Option, Some, None}
 use Rattle.std.specs.Int.Signed.{le_z}
 use Rattle.std.specs.Float.Ieee.{neg, le}
 use Rattle.float.specs.Consts.{k0, k1, k0p5}
@@ -20,8 +20,8 @@ use Rattle.stereo.specs.declared.Mix.{Mix}
 use Rattle.board.specs.declared.Analog.{Analog}
 use Rattle.board.specs.declared.Inputs.{Inputs}
 use Rattle.board.specs.declared.Answer.{Answer}
-use Rattle.board.specs.declared.Outcome.{Outcome}
-use Rattle.board.specs.declared.Outcome.TheVariants.{Done, ShortFrame, ShortParameters, DacCount, DacRange, InputRange, BadOpening, WrongLength, NoBody}
+use Rattle.board.specs.declared.refusals.Refusal.{Refusal}
+use Rattle.board.specs.declared.refusals.Refusal.TheVariants.{ShortFrame, ShortParameters, DacCount, DacRange, InputRange, BadOpening, WrongLength, NoBody}
 
 -- "A fresh board is made from a 32-bit seed and an ideal mark"
 unfoldable pub fresh_of : ℕ → Bool → Analog
@@ -35,17 +35,17 @@ fresh_of seed ideal = record {
   wobble = new_of seed ideal;
 }
 
--- the number of each outcome, as the table of refusals has it
-abbrev pub number_of : Outcome → ℕ
-number_of Done = 0
-number_of ShortFrame = 1
-number_of ShortParameters = 2
-number_of DacCount = 3
-number_of DacRange = 4
-number_of InputRange = 5
-number_of BadOpening = 6
-number_of WrongLength = 7
-number_of NoBody = 8
+-- the number of each refusal, as the table of refusals has it, and 0 for none
+abbrev pub number_of : Option Refusal → ℕ
+number_of None = 0
+number_of (Some ShortFrame) = 1
+number_of (Some ShortParameters) = 2
+number_of (Some DacCount) = 3
+number_of (Some DacRange) = 4
+number_of (Some InputRange) = 5
+number_of (Some BadOpening) = 6
+number_of (Some WrongLength) = 7
+number_of (Some NoBody) = 8
 
 -- a DAC word from -8388608 to 8388607
 unfoldable pub in_range : ℤ → Bool
@@ -65,15 +65,15 @@ unfoldable pub inputs_ok : Inputs → Bool
 inputs_ok x = input_ok x.audio.l && input_ok x.audio.r && input_ok x.ext.l && input_ok x.ext.r
 
 -- "The lowest number that applies is answered"
-unfoldable pub refusal_of : List ℕ → List ℤ → List ℕ → Inputs → Outcome
+unfoldable pub refusal_of : List ℕ → List ℤ → List ℕ → Inputs → Option Refusal
 refusal_of f dac fx x =
-    cond (ltb (length f) FRAME_BYTES) ShortFrame
-    (cond (ltb (length fx) 24) ShortParameters
-    (cond (eqb (length dac) 16) (cond (all_in_range dac) (cond (inputs_ok x) Done InputRange) DacRange) DacCount))
+    cond (ltb (length f) FRAME_BYTES) (Some ShortFrame)
+    (cond (ltb (length fx) 24) (Some ShortParameters)
+    (cond (eqb (length dac) 16) (cond (all_in_range dac) (cond (inputs_ok x) None (Some InputRange)) (Some DacRange)) (Some DacCount)))
 
 -- "A refusal gives twelve zeros, mix 0 and 0, and the same board"
-unfoldable pub refused_of : Analog → Outcome → Answer
-refused_of b o = record { outcome = o; rx = replicate 12 (pos 0); mix = record { l = k0; r = k0 }; board = b }
+unfoldable pub refused_of : Analog → Option Refusal → Answer
+refused_of b o = record { refusal = o; rx = replicate 12 (pos 0); mix = record { l = k0; r = k0 }; board = b }
 
 -- "Receive words 8, 9 are the audio inputs halved, 10, 11 the mix halved"
 abbrev pub RX_AUDIO_IN : ℕ
@@ -101,18 +101,18 @@ stepped_of b f dac fx x =
     let m = master_of f dac v.mix x.ext in
     let o = process_of fx m.l m.r b.comp in
     record {
-      outcome = Done;
+      refusal = None;
       rx = words_of v.rx x.audio o.mix;
       mix = o.mix;
       board = record { duals = s.duals; hat = s.hat; toms = s.toms; cym = s.cym; chains = v.chains; comp = o.comp; wobble = s.w };
     }
 
 -- a call is accepted where its number is 0
-abbrev pub accepted : Outcome → Bool
+abbrev pub accepted : Option Refusal → Bool
 accepted o = eqb (number_of o) 0
 
 -- the step where it is accepted, and else the refusal
-unfoldable pub answered_if : Bool → Outcome → Analog → List ℕ → List ℤ → List ℕ → Inputs → Answer
+unfoldable pub answered_if : Bool → Option Refusal → Analog → List ℕ → List ℤ → List ℕ → Inputs → Answer
 answered_if true o b f dac fx x = stepped_of b f dac fx x
 answered_if false o b f dac fx x = refused_of b o
 

@@ -1,15 +1,22 @@
 // The voice board, and one step with its refusals.
 #![tactic(auto)]
 
-ghost use Rattle.std.specs.Prelude.{◌≡◌, Bool, ◌≤◌, ◌<◌, length};
+ghost use Rattle.std.specs.Prelude.{◌≡◌, Bool, ◌≤◌, ◌<◌, length, Some, IfOk};
+ghost use Rattle.std.specs.Result.{result_err};
 ghost use Rattle.frame.specs.Offsets.{FRAME_BYTES};
 ghost use Rattle.board.specs.Board.{fresh_of, number_of, in_range, all_in_range, input_ok, inputs_ok, refusal_of, refused_of, words_of, stepped_of, answer_of};
 
+mod refusals;
+
+use bus::Bus;
 use chain::Chain;
-use comp::Comp;
+use comp::{Comp, CompOut, Parameters};
 use cym::Cym;
 use dual::DualOsc;
+use frame::{DacWords, Frame};
 use hat::Hat;
+pub use refusals::Refusal;
+use sources::Sources;
 use stereo::Mix;
 use tom::Tom;
 use wobble::Wobble;
@@ -34,61 +41,35 @@ pub struct Inputs {
 }
 
 // A fresh board.
+#[tactic(auto, unfolding(crate::specs::Board::fresh_of))]
 pub fn fresh(seed: u32, ideal: bool) -> Analog
     ensures { result ≡ fresh_of seed ideal }
 {
-    let d = DualOsc::new();
-    let hat = Hat::new();
-    let t = Tom::new();
-    let cym = Cym::new();
-    let c = Chain::new();
-    let comp = Comp::new();
-    let wobble = Wobble::new(seed, ideal);
     Analog {
-        duals: [d; 3],
-        hat,
-        toms: [t; 3],
-        cym,
-        chains: [c; 8],
-        comp,
-        wobble,
+        duals: [DualOsc::new(); 3],
+        hat: Hat::new(),
+        toms: [Tom::new(); 3],
+        cym: Cym::new(),
+        chains: [Chain::new(); 8],
+        comp: Comp::new(),
+        wobble: Wobble::new(seed, ideal),
     }
 }
 
-// How a call ends. The last three are of a recording alone; a step never answers them.
-#[derive(Clone, Copy)]
-pub enum Outcome {
-    Done,
-    ShortFrame,
-    ShortParameters,
-    DacCount,
-    DacRange,
-    InputRange,
-    BadOpening,
-    WrongLength,
-    NoBody,
-}
-
-// The outcome's number in the table of refusals.
-pub fn number(o: Outcome) -> u32
-    ensures { result ≡ number_of o }
+// The refusal's number in the table of refusals, 0 for none.
+pub fn number(refusal: Option<Refusal>) -> u32
+    ensures { result ≡ number_of refusal }
 {
-    match o {
-        Outcome::Done => 0,
-        Outcome::ShortFrame => 1,
-        Outcome::ShortParameters => 2,
-        Outcome::DacCount => 3,
-        Outcome::DacRange => 4,
-        Outcome::InputRange => 5,
-        Outcome::BadOpening => 6,
-        Outcome::WrongLength => 7,
-        Outcome::NoBody => 8,
+    match refusal {
+        None => 0,
+        Some(refusal) => refusal as u32,
     }
 }
 
+// A refusal stands beside the zero words, the zero mix and the same board that it is promised with; a `Result` would leave these out.
 #[derive(Clone, Copy)]
 pub struct Answer {
-    pub outcome: Outcome,
+    pub refusal: Option<Refusal>,
     pub rx: [i32; 12],
     pub mix: Mix,
     pub board: Analog,
@@ -96,64 +77,89 @@ pub struct Answer {
 
 // ---- the refusals
 
+#[tactic(auto, unfolding(crate::specs::Board::in_range))]
 fn in_range(x: i32) -> bool
     ensures { result ≡ in_range x }
 {
-    (-8388608 <= x) & (x <= 8388607)
+    (-8388608..=8388607).contains(&x)
 }
 
+// Each word is looked at, without a branch; `all` stops at the first, 77 of a step's 13,500 instructions more.
 fn all_in_range(dac: &[i32]) -> bool
     ensures { result ≡ all_in_range dac.now }
 {
     let mut ok = true;
-    let mut i = 0;
-    while i < dac.len() {
-        ok = ok & in_range(dac[i]);
-        i += 1;
+    for &x in dac {
+        ok &= in_range(x);
     }
     ok
 }
 
+// By two comparisons, no less plain than `contains`, which orders floats by partial_cmp: 25 instructions a step more.
+#[tactic(auto, unfolding(crate::specs::Board::input_ok))]
 fn input_ok(x: f32) -> bool
     ensures { result ≡ input_ok x }
 {
     (-1.0 <= x) & (x <= 1.0)
 }
 
+#[tactic(auto, unfolding(crate::specs::Board::inputs_ok))]
 fn inputs_ok(x: Inputs) -> bool
     ensures { result ≡ inputs_ok x }
 {
     input_ok(x.audio.l) & input_ok(x.audio.r) & input_ok(x.ext.l) & input_ok(x.ext.r)
 }
 
-// The lowest that applies.
-#[tactic(auto, unfolding(crate::specs::Board::refusal_of))]
-pub fn refusal(f: &[u8], dac: &[i32], fx: &[u8], x: Inputs) -> Outcome
-    ensures { result ≡ refusal_of f.now dac.now fx.now x }
-{
-    if f.len() < frame::FRAME_BYTES {
-        return Outcome::ShortFrame;
-    }
-    if fx.len() < 24 {
-        return Outcome::ShortParameters;
-    }
-    if dac.len() != 16 {
-        return Outcome::DacCount;
-    }
-    if all_in_range(dac) {
-        if inputs_ok(x) {
-            return Outcome::Done;
-        }
-        return Outcome::InputRange;
-    }
-    Outcome::DacRange
+// What a step is given beside the board, each part as long as the step reads it.
+#[derive(Drop)]
+struct Call<'a> {
+    frame: Frame<'a>,
+    dac: DacWords<'a>,
+    fx: Parameters<'a>,
+    inputs: Inputs,
 }
 
-fn refused(board: Analog, outcome: Outcome) -> Answer
-    ensures { result ≡ refused_of board outcome }
+impl<'a> Call<'a> {
+    // The call, or the lowest refusal that applies.
+    #[tactic(auto, unfolding(crate::specs::Board::refusal_of))]
+    fn read(f: &'a [u8], dac: &'a [i32], fx: &'a [u8], x: Inputs) -> Result<Call<'a>, Refusal>
+        ensures refusal { result_err result ≡ refusal_of f.now dac.now fx.now x }
+        ensures call { IfOk result (λ c. (c.frame ≡ f.now) × (c.dac ≡ dac.now) × (c.fx ≡ fx.now) × (c.inputs ≡ x)) }
+    {
+        let frame = Frame::new(f).ok_or(Refusal::ShortFrame)?;
+        let fx = Parameters::new(fx).ok_or(Refusal::ShortParameters)?;
+        let sixteen = DacWords::new(dac).ok_or(Refusal::DacCount)?;
+        if dac.len() > 16 {
+            return Err(Refusal::DacCount);
+        }
+        if !all_in_range(dac) {
+            return Err(Refusal::DacRange);
+        }
+        if !inputs_ok(x) {
+            return Err(Refusal::InputRange);
+        }
+        Ok(Call {
+            frame,
+            dac: sixteen,
+            fx,
+            inputs: x,
+        })
+    }
+}
+
+// The lowest that applies. Slices of any length, one by one: what a caller has before anything is tested; `Call` is what is left of them.
+pub fn refusal(f: &[u8], dac: &[i32], fx: &[u8], x: Inputs) -> Option<Refusal>
+    ensures { result ≡ refusal_of f.now dac.now fx.now x }
+{
+    Call::read(f, dac, fx, x).err()
+}
+
+#[tactic(auto, unfolding(crate::specs::Board::refused_of))]
+fn refused(board: Analog, refusal: Refusal) -> Answer
+    ensures { result ≡ refused_of board (Some refusal) }
 {
     Answer {
-        outcome,
+        refusal: Some(refusal),
         rx: [0; 12],
         mix: Mix { l: 0.0, r: 0.0 },
         board,
@@ -168,54 +174,57 @@ const RX_AUDIO_IN: usize = 8;
 const RX_MAIN: usize = 10;
 
 // The receive words: of the voices, then the audio inputs and the mix, halved.
+#[tactic(auto, unfolding(crate::specs::Board::words_of))]
 fn words(rx: [i32; 12], audio: Mix, mix: Mix) -> [i32; 12]
     ensures { result ≡ words_of rx audio mix }
 {
     let mut next = rx;
-    let a = float::to24(audio.l * 0.5);
-    let b = float::to24(audio.r * 0.5);
-    let c = float::to24(mix.l * 0.5);
-    let d = float::to24(mix.r * 0.5);
-    next[RX_AUDIO_IN] = a;
-    next[RX_AUDIO_IN + 1] = b;
-    next[RX_MAIN] = c;
-    next[RX_MAIN + 1] = d;
+    next[RX_AUDIO_IN] = float::to24(audio.l * 0.5);
+    next[RX_AUDIO_IN + 1] = float::to24(audio.r * 0.5);
+    next[RX_MAIN] = float::to24(mix.l * 0.5);
+    next[RX_MAIN + 1] = float::to24(mix.r * 0.5);
     next
 }
 
 // One sample.
-fn stepped(board: Analog, f: &[u8], dac: &[i32], fx: &[u8], x: Inputs) -> Answer
-    requires { (FRAME_BYTES ≤ length f.now) × (16 ≤ length dac.now) × (24 ≤ length fx.now) }
-    ensures { result ≡ stepped_of board f.now dac.now fx.now x }
+#[tactic(auto, unfolding(crate::specs::Board::stepped_of, crate::specs::Board::taken_of))]
+fn stepped(board: Analog, call: &Call) -> Answer
+    ensures { result ≡ stepped_of board call.now.frame call.now.dac call.now.fx call.now.inputs }
 {
-    let duals = board.duals;
-    let hat = board.hat;
-    let toms = board.toms;
-    let cym = board.cym;
-    let w = board.wobble;
-    let s = sources::sound(duals, hat, toms, cym, w, f, dac);
-    let src = s.src;
-    let c = board.chains;
-    let b = bus::voices(c, f, dac, src);
-    let was = b.mix;
-    let ext = x.ext;
-    let m = bus::master(f, dac, was, ext);
-    let k = board.comp;
-    let o = k.process(fx, m.l, m.r);
-    let mix = o.mix;
-    let voices = b.rx;
-    let audio = x.audio;
-    let rx = words(voices, audio, mix);
-    let duals = s.duals;
-    let hat = s.hat;
-    let toms = s.toms;
-    let cym = s.cym;
-    let chains = b.chains;
-    let comp = o.comp;
-    let wobble = s.w;
-    let outcome = Outcome::Done;
+    let Analog {
+        duals,
+        hat,
+        toms,
+        cym,
+        chains,
+        comp,
+        wobble,
+    } = board;
+    let Sources {
+        duals,
+        hat,
+        toms,
+        cym,
+        w: wobble,
+        src,
+    } = sources::sound(
+        Sources {
+            duals,
+            hat,
+            toms,
+            cym,
+            w: wobble,
+            src: [0.0; 8],
+        },
+        &call.frame,
+        &call.dac,
+    );
+    let Bus { chains, rx, mix } = bus::voices(chains, &call.frame, &call.dac, src);
+    let main = bus::master(&call.frame, &call.dac, mix, call.inputs.ext);
+    let CompOut { comp, mix } = comp.process(&call.fx, main);
+    let rx = words(rx, call.inputs.audio, mix);
     Answer {
-        outcome,
+        refusal: None,
         rx,
         mix,
         board: Analog {
@@ -230,13 +239,13 @@ fn stepped(board: Analog, f: &[u8], dac: &[i32], fx: &[u8], x: Inputs) -> Answer
     }
 }
 
-// One sample, or the lowest refusal that applies.
+// One sample, or the lowest refusal that applies, of what a caller has.
+#[tactic(auto, unfolding(crate::specs::Board::answer_of, crate::specs::Board::answered_if))]
 pub fn step(board: Analog, f: &[u8], dac: &[i32], fx: &[u8], x: Inputs) -> Answer
     ensures { result ≡ answer_of board f.now dac.now fx.now x }
 {
-    let outcome = refusal(f, dac, fx, x);
-    if number(outcome) == 0 {
-        return stepped(board, f, dac, fx, x);
+    match Call::read(f, dac, fx, x) {
+        Ok(call) => stepped(board, &call),
+        Err(refusal) => refused(board, refusal),
     }
-    refused(board, outcome)
 }

@@ -11,9 +11,9 @@ use Rattle.board_c.specs.declared.Answer.{Answer}
 unfoldable pub inputs_of : Float → Float → Float → Float → Inputs
 inputs_of al ar el er = record { audio = record { l = al; r = ar }; ext = record { l = el; r = er } }
 
--- an answer with its outcome as the table's number
+-- an answer with its refusal as the table's number
 unfoldable pub numbered : Board.Answer → Answer
-numbered a = record { number = number_of a.outcome; rx = a.rx; mix = a.mix; board = a.board }
+numbered a = record { number = number_of a.refusal; rx = a.rx; mix = a.mix; board = a.board }
 
 -- a step's answer, numbered, and the call that it is in a list of calls
 pub record Step (b : Analog) (f : List ℕ) (dac : List ℤ) (fx : List ℕ) (x : Inputs) (r : Answer) : Type 0 where

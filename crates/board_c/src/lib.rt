@@ -9,7 +9,7 @@ ghost use Rattle.board_c.specs.Calls.{inputs_of, Step};
 use board::{Analog, Inputs};
 use stereo::Mix;
 
-// A step's answer, with the number of its refusal, 0 for none.
+// A step's answer, with the number of its refusal, 0 for none: C has no Option, so this struct stands beside board's.
 #[repr(C)]
 #[derive(Clone, Copy)]
 pub struct Answer {
@@ -19,6 +19,7 @@ pub struct Answer {
     pub board: Analog,
 }
 
+// A fresh board.
 #[unsafe(no_mangle)]
 pub extern "C" fn rytm_fresh(seed: u32, ideal: bool) -> Analog
     ensures { (result ≡ fresh_of seed ideal) × Promised result }
@@ -26,6 +27,7 @@ pub extern "C" fn rytm_fresh(seed: u32, ideal: bool) -> Analog
     promise::fresh(seed, ideal)
 }
 
+// A step; C passes the slices and the four inputs one by one.
 #[unsafe(no_mangle)]
 pub extern "C" fn rytm_step(
     board: Analog,
@@ -46,15 +48,16 @@ pub extern "C" fn rytm_step(
         },
         ext: Mix { l: ext_l, r: ext_r },
     };
-    let a = board::step(board, frame, dac, fx, x);
-    let outcome = a.outcome;
-    let rx = a.rx;
-    let mix = a.mix;
-    let next = a.board;
-    Answer {
-        number: board::number(outcome),
+    let board::Answer {
+        refusal,
         rx,
         mix,
-        board: next,
+        board,
+    } = board::step(board, frame, dac, fx, x);
+    Answer {
+        number: board::number(refusal),
+        rx,
+        mix,
+        board,
     }
 }

@@ -8,7 +8,8 @@ use Rattle.board.specs.declared.Answer.{Answer}
 use Rattle.frame.specs.Frame.{Bytes}
 use Rattle.board.specs.declared.Analog.{Analog}
 use Rattle.board.specs.declared.Inputs.{Inputs}
-use Rattle.board.specs.declared.Outcome.{Outcome}
+use Rattle.std.specs.Prelude.{Option}
+use Rattle.board.specs.declared.refusals.Refusal.{Refusal}
 use Rattle.board.specs.Board.{refusal_of, stepped_of, refused_of, answered_if, answer_of}
 use borrow.Author.Tests.{eqb-true}
 use Rattle.promise.specs.Calls.{Given, answer, Call, step, given_of, taken, next_of, AnswerOf, StepAnswer}
@@ -30,14 +31,14 @@ way b k = by (taken k) refl
     by false e = left e (ap (λ (c : Bool). cond c (stepped_by b (given_of k)) b) e)
 
 -- a step's answer is that of its call
-pub step_answer : (b : Analog) (g : Given) → AnswerOf b (step g) (answer b g).outcome (answer b g).rx (answer b g).board
+pub step_answer : (b : Analog) (g : Given) → AnswerOf b (step g) (answer b g).refusal (answer b g).rx (answer b g).board
 unfolding answer_of answered_if refused_of stepped_of next_of
 step_answer b g = by (taken (step g)) refl
   where
-    o : Outcome
+    o : Option Refusal
     o = refusal_of g.frame g.dac g.fx g.inputs
 
-    by : (t : Bool) → t ≡ taken (step g) → AnswerOf b (step g) (answered_if t o b g.frame g.dac g.fx g.inputs).outcome (answer b g).rx (answered_if t o b g.frame g.dac g.fx g.inputs).board
+    by : (t : Bool) → t ≡ taken (step g) → AnswerOf b (step g) (answered_if t o b g.frame g.dac g.fx g.inputs).refusal (answer b g).rx (answered_if t o b g.frame g.dac g.fx g.inputs).board
     by true e = record { number = sym (eqb-true _ _ (sym e)); words = refl; board = rw (← e) }
     by false e = record { number = refl; words = refl; board = rw (← e) }
 

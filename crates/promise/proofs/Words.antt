@@ -12,7 +12,8 @@ use Rattle.bus.proofs.Kept.{Words, words_set, words_zero, voices_in}
 use Rattle.stereo.specs.declared.Mix.{Mix}
 use Rattle.comp.specs.Comp.{process_of}
 use Rattle.board.specs.declared.Analog.{Analog}
-use Rattle.board.specs.declared.Outcome.{Outcome}
+use Rattle.std.specs.Prelude.{Option}
+use Rattle.board.specs.declared.refusals.Refusal.{Refusal}
 use Rattle.board.specs.Board as Board
 use Rattle.board.specs.Board.{taken_of, stepped_of, refused_of, refusal_of, answered_if, answer_of}
 use Rattle.promise.specs.Calls.{Given, Call, step, taken, words_of}
@@ -25,7 +26,7 @@ set_words rx audio mix h =
     let c = set b 10 (to24_of (mix.l ⊗ k0p5)) in
     words_set c 11 mix.r (words_set b 10 mix.l (words_set a 9 audio.r (words_set rx 8 audio.l h)))
 
-answered_words : (t : Bool) (o : Outcome) (b : Analog) (g : Given) → Words (answered_if t o b g.frame g.dac g.fx g.inputs).rx
+answered_words : (t : Bool) (o : Option Refusal) (b : Analog) (g : Given) → Words (answered_if t o b g.frame g.dac g.fx g.inputs).rx
 unfolding answered_if stepped_of refused_of
 answered_words true o b g =
     let s = sound_of g.frame g.dac (taken_of b) in

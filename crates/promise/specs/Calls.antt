@@ -1,10 +1,10 @@
 -- Calls, and lists of them from board to board. Definitions only.
-use Rattle.std.specs.Prelude.{ℕ, ◌^◌, ◌<◌, ◌≡◌, Bool, cond, List, [], ◌∷◌, ℤ}
+use Rattle.std.specs.Prelude.{ℕ, ◌^◌, ◌<◌, ◌≡◌, Bool, cond, List, [], ◌∷◌, ℤ, Option}
 use Rattle.frame.specs.Frame.{Bytes}
 use Rattle.board.specs.declared.Analog.{Analog}
 use Rattle.board.specs.declared.Answer.{Answer}
 use Rattle.board.specs.declared.Inputs.{Inputs}
-use Rattle.board.specs.declared.Outcome.{Outcome}
+use Rattle.board.specs.declared.refusals.Refusal.{Refusal}
 use Rattle.board.specs.Board.{fresh_of, number_of, accepted, refusal_of, stepped_of, answer_of}
 
 -- what a step is given beside the board: a frame of bytes, DAC words, FX parameters, four inputs
@@ -28,8 +28,8 @@ pub data Call : Type 0 where
 abbrev pub given_of : Call → Given
 given_of (step g) = g
 
--- how it ends, whatever the board
-abbrev pub outcome_of : Call → Outcome
+-- its refusal or none, whatever the board
+abbrev pub outcome_of : Call → Option Refusal
 outcome_of (step g) = refusal_of g.frame g.dac g.fx g.inputs
 
 -- the words that it answers
@@ -44,8 +44,8 @@ taken k = accepted (outcome_of k)
 unfoldable pub next_of : Analog → Call → Analog
 next_of b k = let g = given_of k in cond (taken k) (stepped_of b g.frame g.dac g.fx g.inputs).board b
 
--- an answer with this outcome, these words and this board is call k's
-pub record AnswerOf (b : Analog) (k : Call) (o : Outcome) (rx : List ℤ) (next : Analog) : Type 0 where
+-- an answer with this refusal or none, these words and this board is call k's
+pub record AnswerOf (b : Analog) (k : Call) (o : Option Refusal) (rx : List ℤ) (next : Analog) : Type 0 where
   pub number : number_of o ≡ number_of (outcome_of k)
   pub words : rx ≡ words_of b k
   pub board : next ≡ next_of b k
@@ -53,7 +53,7 @@ pub record AnswerOf (b : Analog) (k : Call) (o : Outcome) (rx : List ℤ) (next 
 -- a step's answer to any arguments is that of a call: what a caller lends as a frame is a list of bytes
 pub record StepAnswer (b : Analog) (f : List ℕ) (dac : List ℤ) (fx : List ℕ) (x : Inputs) (a : Answer) : Type 0 where
   pub bytes : Bytes f
-  pub call : AnswerOf b (step (record { frame = f; bytes = bytes; dac = dac; fx = fx; inputs = x })) a.outcome a.rx a.board
+  pub call : AnswerOf b (step (record { frame = f; bytes = bytes; dac = dac; fx = fx; inputs = x })) a.refusal a.rx a.board
 
 -- ---- lists
 -- "each step takes the board that the one before it returned"

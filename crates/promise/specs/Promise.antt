@@ -1,4 +1,4 @@
--- Demand 3: what every list of calls keeps, in the terms of the scope. Definitions only.
+-- What every list of calls keeps, in the terms of levels, phases and stretches. Definitions only.
 use Rattle.std.specs.Prelude.{ℕ, suc, ◌≤◌, ◌≡◌, Bool, false, cond, ◌&&◌, List, [], ◌∷◌, ◌++◌, get_or, T, pos, nat_abs, Float}
 use Rattle.std.specs.Float.Ieee.{le}
 use Rattle.float.specs.Consts.{k0, k1, k127, k_m128}
@@ -63,7 +63,7 @@ pub record Within (lo hi x : Float) : Type 0 where
   pub from : T (le lo x)
   pub upto : T (le x hi)
 
--- "phases from 0 to 1", ends included; R-3 tightens the six of the dual voices, and those alone.
+-- "phases from 0 to 1", ends included; the six of the dual voices, and those alone, stay below 1.
 -- A hat's or cymbal's phase can be exactly 1: it is drawn at a hit after silence, a random word of 2 ^ 32 - 1 draws 1 (`drawn_one` in crates/wobble/proofs), and where the
 -- record parks the level in the same step the bank stands still and the phase stays as drawn.
 abbrev pub PhaseIn : Osc → Float → Type 0
@@ -90,7 +90,7 @@ pub record Promise (b : Analog) (calls : List Call) : Type 0 where
   -- "words within ±8,388,607"
   pub words : (p : Place calls) (n : ℕ) → nat_abs (get_or (words_of (reached_of b p.before) p.call) n (pos 0)) ≤ 8388607
 
--- ---- said beyond the demand
+-- ---- said beyond that
 -- how many calls of a run are accepted
 unfoldable pub accepted_in : List Call → ℕ
 accepted_in [] = 0

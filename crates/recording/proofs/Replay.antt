@@ -6,7 +6,9 @@ use native.Mathlib.Decide.{dec_lt}
 use mathlib.Core.Path.{◌≡◌, refl, sym, ap, ◌∙◌, subst}
 use mathlib.Core.Bool.{Bool, true, false, cond, ◌&&◌, true≢false}
 use mathlib.Core.List.{List, [], ◌∷◌, map}
-use lib.ListN.{length}
+use lib.ListN.{length, get_or}
+use mir.Syntax.{w8}
+use mir.Val.{Fits}
 use lib.Dec.{ltb, eqb}
 use borrow.Author.Tests.{lt-ltb, eq-eqb, ltb-true, eqb-true}
 use Rattle.board.specs.Board.{fresh_of}
@@ -17,12 +19,13 @@ use Rattle.promise.proofs.Calls.{step_answer}
 use Rattle.promise.proofs.Whole.{fresh_promised}
 use Rattle.board.specs.declared.Analog.{Analog}
 use Rattle.board.specs.declared.Answer.{Answer}
-use Rattle.board.specs.declared.Outcome.TheVariants.{Done, BadOpening, WrongLength, NoBody}
+use Rattle.board.specs.declared.refusals.Refusal.{Refusal}
+use Rattle.board.specs.declared.refusals.Refusal.TheVariants.{BadOpening, WrongLength, NoBody}
+use Rattle.std.specs.Prelude.{Ok, Err, IfOk}
 use Rattle.recording.specs.declared.Playing.{Playing}
 use Rattle.recording.specs.declared.Played.{Played}
-use Rattle.recording.specs.declared.Opened.{Opened}
 use Rattle.recording.specs.Format.{number_at, seed_of, ideal_of, steps_of, bodies_of, opening_ok, extent_of, entry_at, named_to, frame_at, fx_at, dac_at, inputs_at}
-use Rattle.recording.specs.Play.{ready_of, closed_of, open_of, body_of, passed_of, unplayed_of, next_of}
+use Rattle.recording.specs.Play.{ready_of, open_of, body_of, passed_of, unplayed_of, next_of}
 use Rattle.recording.specs.Replay.{Bodies, plays_of, after_of, answered, Replays, OneCall, played, left}
 
 and_true : (a b : Bool) → (a && b) ≡ true → (a ≡ true) × (b ≡ true)
@@ -44,18 +47,18 @@ named_at r bodies (suc n) i h l =
 pub record Sound (r : List ℕ) : Type 0 where
   pub long : length r ≡ extent_of (steps_of r) (bodies_of r)
   pub names : named_to r (bodies_of r) (steps_of r) ≡ true
-  pub ready : open_of r ≡ ready_of r
 
-pub sound : (r : List ℕ) → (open_of r).outcome ≡ Done → Sound r
-unfolding open_of closed_of
-sound r h = by (opening_ok r) (eqb (length r) (extent_of (steps_of r) (bodies_of r))) (named_to r (bodies_of r) (steps_of r)) refl refl refl h
+-- an opened recording is sound, and is played from its start
+pub sound : (r : List ℕ) → IfOk (open_of r) (λ p. Sound r × (p ≡ ready_of r))
+unfolding open_of
+sound r = by (opening_ok r) (eqb (length r) (extent_of (steps_of r) (bodies_of r))) (named_to r (bodies_of r) (steps_of r)) refl refl
   where
-    by : (a b c : Bool) → a ≡ opening_ok r → b ≡ eqb (length r) (extent_of (steps_of r) (bodies_of r)) → c ≡ named_to r (bodies_of r) (steps_of r) →
-        (cond a (cond b (cond c (ready_of r) (closed_of NoBody)) (closed_of WrongLength)) (closed_of BadOpening)).outcome ≡ Done → Sound r
-    by true true true p q s k = record { long = eqb-true _ _ (sym q); names = sym s; ready = rw (← p, ← q, ← s) }
-    by true true false p q s k = absurd (let z : ◌≡◌ {A = ℕ} 0 1 = cc in omega arith)
-    by true false c p q s k = absurd (let z : ◌≡◌ {A = ℕ} 0 1 = cc in omega arith)
-    by false b c p q s k = absurd (let z : ◌≡◌ {A = ℕ} 0 1 = cc in omega arith)
+    by : (a b c : Bool) → b ≡ eqb (length r) (extent_of (steps_of r) (bodies_of r)) → c ≡ named_to r (bodies_of r) (steps_of r) →
+        IfOk {E = Refusal} (cond a (cond b (cond c (Ok (ready_of r)) (Err NoBody)) (Err WrongLength)) (Err BadOpening)) (λ p. Sound r × (p ≡ ready_of r))
+    by true true true q s = (record { long = eqb-true _ _ (sym q); names = sym s }, refl)
+    by true true false q s = tt
+    by true false c q s = tt
+    by false b c q s = tt
 
 -- what the body at o gives a step
 given_at : (r : List ℕ) → Bytes r → ℕ → Given
@@ -104,7 +107,7 @@ module _ (r : List ℕ) (B : Bytes r) (w : Sound r) where
   unfolding number_at
   seed_fits = omega (arith, B 8, B 9, B 10, B 11)
 
-  replays : (n : ℕ) → n ≤ steps_of r → Replays r n
+  replays : (n : ℕ) → n ≤ steps_of r → Replays r (ready_of r) n
   unfolding ready_of
   replays n h =
       let b = fresh_of (seed_of r) (ideal_of r) in
@@ -113,30 +116,31 @@ module _ (r : List ℕ) (B : Bytes r) (w : Sound r) where
         steps = steps_from 0 n;
         count = steps_count n 0;
         bodies = steps_bodies n 0;
-        answers = rw w.ready (plays n 0 b (omega arith));
-        board = rw w.ready (after n 0 b (omega arith));
+        answers = plays n 0 b (omega arith);
+        board = after n 0 b (omega arith);
         promise = k.promise (map step (steps_from 0 n));
         beyond = k.beyond (map step (steps_from 0 n));
       }
 
 -- the answers of a replay are exactly those of the list of its calls from the fresh board of its seed and mark
-pub replay_calls : (r : List ℕ) → Bytes r → (open_of r).outcome ≡ Done → (n : ℕ) → n ≤ steps_of r → Replays r n
-replay_calls r B h n k = replays r B (sound r h) n k
+pub replay_calls : (r : List ℕ) (p : Playing) → ((i : ℕ) → Fits w8 (get_or r i 0)) → Ok p ≡ open_of r → (n : ℕ) → n ≤ steps_of r → Replays r p n
+replay_calls r p B e =
+    let (w, s) = rw (← e) at (sound r) in
+    subst (λ (q : Playing). (n : ℕ) → n ≤ steps_of r → Replays r q n) (sym s) (replays r (λ i. (B i).fits) w)
 
 -- and each replayed step, wherever it stands, is one call or none
-pub one_call : (r : List ℕ) → Bytes r → (p : Playing) → OneCall p (next_of p r)
+pub one_call : (r : List ℕ) (p : Playing) (a : Played) → ((i : ℕ) → Fits w8 (get_or r i 0)) → a ≡ next_of p r → OneCall p a
 unfolding next_of
-one_call r B p = by (eqb (length r) (extent_of p.steps p.bodies)) (ltb p.at p.steps) (ltb (entry_at r p.at) p.bodies)
+one_call r p a B e = subst (λ (x : Played). OneCall p x) (sym e) (by (eqb (length r) (extent_of p.steps p.bodies)) (ltb p.at p.steps) (ltb (entry_at r p.at) p.bodies))
   where
+    g : Given
+    g = given_at r (λ i. (B i).fits) (extent_of p.steps (entry_at r p.at))
+
     by : (a b c : Bool) → OneCall p (cond a (cond b (cond c (passed_of p (body_of p.board r (extent_of p.steps (entry_at r p.at)))) (unplayed_of p NoBody)) (unplayed_of p NoBody)) (unplayed_of p WrongLength))
-    by true true true = unfold passed_of body_of given_at answered in played (given_at r B (extent_of p.steps (entry_at r p.at))) refl (step_answer p.board (given_at r B (extent_of p.steps (entry_at r p.at)))).board
+    by true true true = unfold passed_of body_of given_at answered in played g refl (step_answer p.board g).board
     by true true false = unfold unplayed_of in left refl refl refl
     by true false c = unfold unplayed_of in left refl refl refl
     by false b c = unfold unplayed_of in left refl refl refl
 
--- ---- as the contracts say it
-pub opens : (r : List ℕ) → Bytes r → (o : Opened) → o ≡ open_of r → (o ≡ open_of r) × ((n : ℕ) → o.outcome ≡ Done → n ≤ steps_of r → Replays r n)
-opens r B o e = (e, λ n h k. replay_calls r B (ap (λ (x : Opened). x.outcome) (sym e) ∙ h) n k)
-
-pub nexts : (r : List ℕ) → Bytes r → (p : Playing) (a : Played) → a ≡ next_of p r → (a ≡ next_of p r) × OneCall p a
-nexts r B p a e = (e, subst (λ (x : Played). OneCall p x) (sym e) (one_call r B p))
+pub next_answers : (r : List ℕ) (p : Playing) (a : Played) → ((i : ℕ) → Fits w8 (get_or r i 0)) → a ≡ next_of p r → (a ≡ next_of p r) × OneCall p a
+next_answers r p a B e = (e, one_call r p a B e)

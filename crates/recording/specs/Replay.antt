@@ -7,7 +7,6 @@ use Rattle.promise.specs.Promise.{Promise, Beyond}
 use Rattle.recording.specs.declared.Playing.{Playing}
 use Rattle.recording.specs.declared.Played.{Played}
 use Rattle.recording.specs.Format.{seed_of, ideal_of, steps_of, extent_of, entry_at, frame_at, fx_at, dac_at, inputs_at}
-use Rattle.recording.specs.Play.{open_of}
 use Rattle.recording.specs.Play as Play
 
 -- a step is given what the body at o holds
@@ -33,16 +32,16 @@ after_of (suc n) p r = after_of n (Play.next_of p r).playing r
 
 -- a replayed step's answer, with the board that it leaves
 unfoldable pub answered : Played → Answer
-answered a = record { outcome = a.outcome; rx = a.rx; mix = a.mix; board = a.playing.board }
+answered a = record { refusal = a.refusal; rx = a.rx; mix = a.mix; board = a.playing.board }
 
--- the first n steps of a recording that was opened answer as steps with its bodies from the fresh board, leave the board that these leave, and so keep what
+-- the first n steps of a recording that was opened to be played as p answer as steps with its bodies from the fresh board, leave the board that these leave, and so keep what
 -- every list of calls keeps
-pub record Replays (r : List ℕ) (n : ℕ) : Type 0 where
+pub record Replays (r : List ℕ) (p : Playing) (n : ℕ) : Type 0 where
   pub steps : List Given
   pub count : length steps ≡ n
   pub bodies : Bodies r 0 steps
-  pub answers : map answered (plays_of n (open_of r).playing r) ≡ answers_of (fresh_of (seed_of r) (ideal_of r)) steps
-  pub board : (after_of n (open_of r).playing r).board ≡ reached_of (fresh_of (seed_of r) (ideal_of r)) (map step steps)
+  pub answers : map answered (plays_of n p r) ≡ answers_of (fresh_of (seed_of r) (ideal_of r)) steps
+  pub board : (after_of n p r).board ≡ reached_of (fresh_of (seed_of r) (ideal_of r)) (map step steps)
   pub promise : Promise (fresh_of (seed_of r) (ideal_of r)) (map step steps)
   pub beyond : Beyond (fresh_of (seed_of r) (ideal_of r)) (map step steps)
 
@@ -50,4 +49,4 @@ pub record Replays (r : List ℕ) (n : ℕ) : Type 0 where
 -- with direct steps
 pub data OneCall (p : Playing) (a : Played) : Type 0 where
   played : (g : Given) → answered a ≡ answer p.board g → a.playing.board ≡ next_of p.board (step g) → OneCall p a
-  left : accepted a.outcome ≡ false → a.rx ≡ replicate 12 (pos 0) → a.playing ≡ p → OneCall p a
+  left : accepted a.refusal ≡ false → a.rx ≡ replicate 12 (pos 0) → a.playing ≡ p → OneCall p a

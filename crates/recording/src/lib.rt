@@ -1,15 +1,16 @@
 // Recordings: an opening, the contents and the bodies in one slice of bytes, played step by step on a fresh board.
 #![tactic(auto)]
 
-ghost use Rattle.std.specs.Prelude.{◌≡◌, Bool, ℕ, ◌+◌, ◌*◌, ◌≤◌, ◌<◌, length};
+ghost use Rattle.std.specs.Prelude.{◌≡◌, Bool, ℕ, ◌+◌, ◌*◌, ◌≤◌, ◌<◌, length, IfOk};
 ghost use Rattle.std.specs.Float.{binary32};
 ghost use Rattle.std.specs.Float.Ieee.{of_bits};
-ghost use Rattle.board.specs.declared.Outcome.TheVariants.{Done};
 ghost use Rattle.recording.specs.Format.{steps_of, number_at, word_of, in_bounds, letters_ok, opening_ok, extent_of, named_to, dac_at, inputs_at};
-ghost use Rattle.recording.specs.Play.{ready_of, closed_of, open_of, body_of, passed_of, unplayed_of, next_of};
+ghost use Rattle.recording.specs.Play.{ready_of, open_of, body_of, passed_of, unplayed_of, next_of};
 ghost use Rattle.recording.specs.Replay.{Replays, OneCall};
 
-use board::{Analog, Answer, Inputs, Outcome};
+use board::{Analog, Answer, Inputs, Refusal};
+use std::array;
+use std::num::f32_from_bits_with_nan;
 use stereo::Mix;
 
 // A recording that is being played: its board, its counts and the number of its next step.
@@ -21,67 +22,62 @@ pub struct Playing {
     pub at: u32,
 }
 
-// A recording opened; a refused one has no steps.
-#[derive(Clone, Copy)]
-pub struct Opened {
-    pub outcome: Outcome,
-    pub playing: Playing,
-}
-
-// What a step answers, and the rest of the recording.
+// What a step answers, and the rest of the recording: as the board's Answer, which has a board in that place. One generic type is no plainer: all
+// that is said of lists of calls reads the `board` of an answer, which here lies one deeper.
 #[derive(Clone, Copy)]
 pub struct Played {
-    pub outcome: Outcome,
+    pub refusal: Option<Refusal>,
     pub rx: [i32; 12],
     pub mix: Mix,
     pub playing: Playing,
 }
 
 // ---- the format
+// Each reader asks for its own bytes at `o`: the lengths are 4, 16, 64 and 768, so that no one fact would stand in a type.
 
 // The 4-byte number at `o`.
+#[tactic(auto, unfolding(crate::specs::Format::number_at))]
 fn number(rec: &[u8], o: usize) -> u32
     requires { o + 4 ≤ length rec.now }
     ensures { result ≡ number_at rec.now o }
 {
-    (frame::word(rec, o) as u32) * 65536 + (frame::word(rec, o + 2) as u32)
+    u32::from_be_bytes([rec[o], rec[o + 1], rec[o + 2], rec[o + 3]])
 }
 
-// `w as i32`.
-fn word(w: u32) -> i32
-    ensures { result ≡ word_of w }
+// The 4-byte number at `o`, in two's complement.
+#[tactic(auto, unfolding(crate::specs::Format::word_of))]
+fn word(rec: &[u8], o: usize) -> i32
+    requires { o + 4 ≤ length rec.now }
+    ensures { result ≡ word_of (number_at rec.now o) }
 {
-    if w < 2147483648 {
-        w as i32
-    } else {
-        ((w - 2147483648) as i32) + (-2147483648)
-    }
+    number(rec, o).cast_signed()
 }
 
-// `f32::from_bits`; every pattern of a value that is no number gives one that is none.
-fn input(w: u32) -> f32
-    ensures { result ≡ of_bits binary32 w }
+// The f32 at `o`; every pattern of a value that is no number gives one that is none.
+fn input(rec: &[u8], o: usize) -> f32
+    requires { o + 4 ≤ length rec.now }
+    ensures { result ≡ of_bits binary32 (number_at rec.now o) }
 {
-    if w % 2147483648 <= 2139095040 {
-        return f32::from_bits(w);
-    }
-    0.0 / 0.0
+    f32_from_bits_with_nan(number(rec, o))
 }
 
+#[tactic(auto, unfolding(crate::specs::Format::in_bounds))]
 fn in_bounds(x: u32, least: u32, most: u32) -> bool
     ensures { result ≡ in_bounds x least most }
 {
-    (least <= x) & (x <= most)
+    (least..=most).contains(&x)
 }
 
+#[tactic(auto, unfolding(crate::specs::Format::letters_ok))]
 fn letters_ok(rec: &[u8]) -> bool
     requires { 20 ≤ length rec.now }
     ensures { result ≡ letters_ok rec.now }
 {
-    (rec[0] == b'R') & (rec[1] == b'V') & (rec[2] == b'B') & (rec[3] == b'R')
+    rec.starts_with(b"RVBR")
 }
 
 // Whether the opening is good.
+#[tactic(auto, unfolding(crate::specs::Format::opening_ok))]
 pub fn opening_ok(rec: &[u8]) -> bool
     ensures { result ≡ opening_ok rec.now }
 {
@@ -94,6 +90,7 @@ pub fn opening_ok(rec: &[u8]) -> bool
 }
 
 // The length of a recording.
+#[tactic(auto, unfolding(crate::specs::Format::extent_of))]
 fn extent(steps: u32, bodies: u32) -> usize
     ensures { result ≡ extent_of steps bodies }
 {
@@ -105,13 +102,7 @@ fn named(rec: &[u8], steps: u32, bodies: u32) -> bool
     requires { 20 + 4 * steps ≤ length rec.now }
     ensures { result ≡ named_to rec.now bodies steps }
 {
-    let mut ok = true;
-    let mut i: u32 = 0;
-    while i < steps {
-        ok = ok & (number(rec, 20 + 4 * (i as usize)) < bodies);
-        i += 1;
-    }
-    ok
+    (0..steps).all(|i| number(rec, 20 + 4 * (i as usize)) < bodies)
 }
 
 // The DAC words from `o` on.
@@ -119,28 +110,23 @@ fn dac(rec: &[u8], o: usize) -> [i32; 16]
     requires { o + 64 ≤ length rec.now }
     ensures { result ≡ dac_at rec.now o 16 }
 {
-    let mut words = [0; 16];
-    let mut i: usize = 0;
-    while i < 16 {
-        words[i] = word(number(rec, o + 4 * i));
-        i += 1;
-    }
-    words
+    array::from_fn(|i| word(rec, o + 4 * i))
 }
 
 // The four inputs from `o` on.
+#[tactic(auto, unfolding(crate::specs::Format::inputs_at))]
 fn inputs(rec: &[u8], o: usize) -> Inputs
     requires { o + 16 ≤ length rec.now }
     ensures { result ≡ inputs_at rec.now o }
 {
     Inputs {
         audio: Mix {
-            l: input(number(rec, o)),
-            r: input(number(rec, o + 4)),
+            l: input(rec, o),
+            r: input(rec, o + 4),
         },
         ext: Mix {
-            l: input(number(rec, o + 8)),
-            r: input(number(rec, o + 12)),
+            l: input(rec, o + 8),
+            r: input(rec, o + 12),
         },
     }
 }
@@ -148,124 +134,102 @@ fn inputs(rec: &[u8], o: usize) -> Inputs
 // ---- playing
 
 // The recording's board, fresh, at the first step.
-fn ready(rec: &[u8]) -> Opened
+#[tactic(auto, unfolding(crate::specs::Play::ready_of))]
+fn ready(rec: &[u8]) -> Playing
     requires { 20 ≤ length rec.now }
     ensures { result ≡ ready_of rec.now }
 {
-    let board = promise::fresh(number(rec, 8), rec[5] == 1);
-    let steps = number(rec, 12);
-    let bodies = number(rec, 16);
-    let outcome = Outcome::Done;
-    Opened {
-        outcome,
-        playing: Playing {
-            board,
-            steps,
-            bodies,
-            at: 0,
-        },
-    }
-}
-
-fn closed(outcome: Outcome) -> Opened
-    ensures { result ≡ closed_of outcome }
-{
-    let board = promise::fresh(0, false);
-    Opened {
-        outcome,
-        playing: Playing {
-            board,
-            steps: 0,
-            bodies: 0,
-            at: 0,
-        },
+    Playing {
+        board: promise::fresh(number(rec, 8), rec[5] == 1),
+        steps: number(rec, 12),
+        bodies: number(rec, 16),
+        at: 0,
     }
 }
 
 // Opens a recording, or answers the lowest refusal that applies.
-pub fn open(rec: &[u8]) -> Opened
-    ensures { (result ≡ open_of rec.now) × ((n : ℕ) → result.outcome ≡ Done → n ≤ steps_of rec.now → Replays rec.now n) }
+#[tactic(auto, unfolding(crate::specs::Play::open_of, crate::specs::Format::extent_of), using(crate::proofs::Opening::opening_long, crate::proofs::Replay::replay_calls))]
+pub fn open(rec: &[u8]) -> Result<Playing, Refusal>
+    ensures value { result ≡ open_of rec.now }
+    ensures replays { IfOk result (λ p. (n : ℕ) → n ≤ steps_of rec.now → Replays rec.now p n) }
 {
-    if opening_ok(rec) {
-        let steps = number(rec, 12);
-        let bodies = number(rec, 16);
-        if rec.len() == extent(steps, bodies) {
-            if named(rec, steps, bodies) {
-                return ready(rec);
-            }
-            return closed(Outcome::NoBody);
-        }
-        return closed(Outcome::WrongLength);
+    if !opening_ok(rec) {
+        return Err(Refusal::BadOpening);
     }
-    closed(Outcome::BadOpening)
+    let steps = number(rec, 12);
+    let bodies = number(rec, 16);
+    if rec.len() != extent(steps, bodies) {
+        return Err(Refusal::WrongLength);
+    }
+    if !named(rec, steps, bodies) {
+        return Err(Refusal::NoBody);
+    }
+    Ok(ready(rec))
 }
 
 // The answer to the body that starts at `o`.
+#[tactic(auto, unfolding(crate::specs::Play::body_of))]
 fn body(board: Analog, rec: &[u8], o: usize) -> Answer
     requires { o + 768 ≤ length rec.now }
     ensures { result ≡ body_of board rec.now o }
 {
     let words = dac(rec, o + 688);
     let x = inputs(rec, o + 752);
-    let a = o + 664;
-    let e = o + 688;
-    board::step(board, &rec[o..a], &words, &rec[a..e], x)
+    board::step(board, &rec[o..o + 664], &words, &rec[o + 664..o + 688], x)
 }
 
 // The step's answer, and the place after it.
+#[tactic(auto, unfolding(crate::specs::Play::passed_of))]
 fn passed(p: Playing, rec: &[u8], n: u32) -> Played
     requires { (p.at + 1 < 4294967296) × (extent_of p.steps n + 768 ≤ length rec.now) }
     ensures { result ≡ passed_of p (body_of p.board rec.now (extent_of p.steps n)) }
 {
-    let board = p.board;
-    let steps = p.steps;
-    let bodies = p.bodies;
-    let at = p.at;
-    let a = body(board, rec, extent(steps, n));
-    let outcome = a.outcome;
-    let rx = a.rx;
-    let mix = a.mix;
-    let next = a.board;
+    let Answer {
+        refusal,
+        rx,
+        mix,
+        board,
+    } = body(p.board, rec, extent(p.steps, n));
     Played {
-        outcome,
+        refusal,
         rx,
         mix,
         playing: Playing {
-            board: next,
-            steps,
-            bodies,
-            at: at + 1,
+            board,
+            steps: p.steps,
+            bodies: p.bodies,
+            at: p.at + 1,
         },
     }
 }
 
-fn unplayed(p: Playing, outcome: Outcome) -> Played
-    ensures { result ≡ unplayed_of p outcome }
+#[tactic(auto, unfolding(crate::specs::Play::unplayed_of))]
+fn unplayed(p: Playing, refusal: Refusal) -> Played
+    ensures { result ≡ unplayed_of p refusal }
 {
     Played {
-        outcome,
+        refusal: Some(refusal),
         rx: [0; 12],
         mix: Mix { l: 0.0, r: 0.0 },
         playing: p,
     }
 }
 
-// The next step. Past the last step, or with a slice that is not the one opened, it tests again what it needs.
+// The next step. A `Playing` and a slice go beside each other, since any of both may be given: past the last step, or with a slice that is
+// not the one opened, it tests again what it needs.
+#[tactic(auto, unfolding(crate::specs::Format::extent_of))]
 pub fn next(p: Playing, rec: &[u8]) -> Played
     ensures { (result ≡ next_of p rec.now) × OneCall p result }
 {
-    let steps = p.steps;
-    let bodies = p.bodies;
-    let at = p.at;
-    if rec.len() == extent(steps, bodies) {
-        if at < steps {
-            let n = number(rec, 20 + 4 * (at as usize));
-            if n < bodies {
-                return passed(p, rec, n);
-            }
-            return unplayed(p, Outcome::NoBody);
-        }
-        return unplayed(p, Outcome::NoBody);
+    if rec.len() != extent(p.steps, p.bodies) {
+        return unplayed(p, Refusal::WrongLength);
     }
-    unplayed(p, Outcome::WrongLength)
+    if p.at >= p.steps {
+        return unplayed(p, Refusal::NoBody);
+    }
+    let n = number(rec, 20 + 4 * (p.at as usize));
+    if n >= p.bodies {
+        return unplayed(p, Refusal::NoBody);
+    }
+    passed(p, rec, n)
 }

@@ -1,44 +1,28 @@
--- `board::all_in_range` meets its contract. The loop's invariant: the words passed and the words left decide together. Assumes nothing.
-use Prim.Native.Nat.{ℕ, suc, ◌+◌, ◌≤◌, ◌<◌}
-use native.Mathlib.Numerals.{add-one}
-use native.Mathlib.Omega.{arith}
+-- `board::all_in_range` meets its contract: the words are in range if those of its list are. Assumes nothing.
 use mathlib.Core.Path.{◌≡◌, refl, sym, ap, ◌∙◌}
-use mathlib.Core.Bool.{Bool, true, false, ◌&&◌}
-use mathlib.Core.List.{List}
-use mir.Syntax.{w32}
-use mir.ValLaws.{to_z-of_z}
+use mathlib.Core.Bool.{Bool, ◌&&◌}
+use mathlib.Core.List.{List, [], ◌∷◌}
 use lib.IntN.{ℤ, pos}
-use lib.ListN.{length, drop, get_or, drop_of_length-le}
-use lib.Seq.{drop-cons}
+use lib.ListN.{get_or, take}
+use Prim.Native.Nat.{◌+◌}
 use borrow.Author.Rules.{rules}
+use Rattle.std.specs.List.{list_all}
+use Rattle.std.proofs.Common.{take_all}
+use Rattle.std.proofs.lemmas.List.Folds.{list_all_more}
 use Rattle.board.specs.Board.{in_range, all_in_range}
 use Rattle.board.proofs.all_in_range.Goals as goal
 
-and_assoc : (a b d : Bool) → (a && (b && d)) ≡ ((a && b) && d)
-and_assoc true b d = refl
-and_assoc false b d = refl
-
-and_true : (a : Bool) → (a && true) ≡ a
-and_true true = refl
-and_true false = refl
-
-again : (zs : List ℤ) (i : ℕ) (ok r : Bool) → i < length zs → r ≡ in_range (get_or zs i (pos 0)) → all_in_range zs ≡ (ok && all_in_range (drop i zs)) → all_in_range zs ≡ ((ok && r) && all_in_range (drop (i + 1) zs))
+list_is : (zs : List ℤ) → all_in_range zs ≡ list_all in_range zs
 unfolding all_in_range
-again zs i ok r h e inv = rw (add-one, e, ← and_assoc ok (in_range (get_or zs i (pos 0))) (all_in_range (drop (suc i) zs))) (inv ∙ ap (λ (l : List ℤ). ok && all_in_range l) (drop-cons zs i (pos 0) h))
+list_is [] = refl
+list_is (z ∷ zs) = ap (λ (b : Bool). in_range z && b) (list_is zs)
 
-done : (zs : List ℤ) (i : ℕ) (ok : Bool) → length zs ≤ i → all_in_range zs ≡ (ok && all_in_range (drop i zs)) → ok ≡ all_in_range zs
-unfolding all_in_range
-done zs i ok h inv = sym (inv ∙ ap (λ (l : List ℤ). ok && all_in_range l) (drop_of_length-le zs h) ∙ and_true ok)
-
-pub loop-i-init : goal.loop-i-init
-loop-i-init c = (search rules, refl)
-
-pub loop-i-preserved : goal.loop-i-preserved
-loop-i-preserved c =
-    let l = c in
-    let zs = l.args.dac.now in
-    let e = to_z-of_z w32 (get_or zs l.loop-i.i (pos 0)) (record { sfits = c.in_range-arg-1.given }) in
-    (omega arith, again zs l.loop-i.i l.loop-i.ok c.in_range-ok.result c.loop-i-test.true (c.in_range-ok.ensures ∙ ap in_range e) l.loop-i.invariant.1)
+pub loop-x-preserved : goal.loop-x-preserved
+loop-x-preserved c =
+    let xs = c.args.dac.now in
+    let i = c.loop-x.x-index in
+    let more : list_all in_range (take (i + 1) xs) ≡ (list_all in_range (take i xs) && in_range (get_or xs i (pos 0))) = list_all_more in_range xs i (pos 0) (search rules) in
+    rw (more, ← c.loop-x.invariant, c.in_range-ok.ensures) (search rules)
 
 pub returns : goal.returns
-returns c = done c.args.dac.now c.loop-i.i c.loop-i.ok c.loop-i-test.false c.loop-i.invariant.1
+returns c = c.loop-x.invariant ∙ ap (list_all in_range) (take_all c.loop-x.x-index c.args.dac.now c.loop-x-test.false) ∙ sym (list_is c.args.dac.now)

@@ -1,2 +1,0 @@
--- Laws of `board`.
-pub mod Accepts

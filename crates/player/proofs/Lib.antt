@@ -1,5 +1,3 @@
 -- The laws.
-pub mod Joined
-pub mod Steps
-pub mod Whole
 pub mod Input
+pub mod Pages

@@ -1,2 +1,3 @@
 -- The definitions that the contracts of `player` cite.
+pub mod Failure
 pub mod Text

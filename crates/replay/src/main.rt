@@ -2,5 +2,5 @@
 #![tactic(auto)]
 
 fn main(rt: HostRuntime) {
-    player::play(&mut rt.stdin(), &mut rt.stdout(), &mut rt.stderr());
+    let _ = player::play(&mut rt.stdin(), &mut rt.stdout(), &mut rt.stderr());
 }

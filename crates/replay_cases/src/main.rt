@@ -4,12 +4,12 @@
 use std::fs::File;
 use std::io;
 
-// What cannot be written to standard output is said by `player`.
+// What cannot be read or written is said by `player`.
 fn play(rt: &HostRuntime, name: &str) -> io::Result<()> {
     let _ = println!(rt; "{name}");
     match File::open(rt, name) {
         Ok(mut file) => {
-            player::play(&mut file, &mut rt.stdout(), &mut rt.stderr());
+            let _ = player::play(&mut file, &mut rt.stdout(), &mut rt.stderr());
         }
         Err(e) => {
             let text = format!(in rt.alloc(); "{e}")?;

@@ -1,72 +1,23 @@
-// Numbers as text, put into a lent page one after the other: each function takes the place where it starts and gives the place after its text.
-// The kit's `io` has decimal digits too, at the start of an array of their own, and no signed numbers.
+// A step's words as text.
 #![tactic(auto)]
 
-ghost use Rattle.std.specs.Prelude.{◌≡◌, [], ◌∷◌, ◌++◌, ◌+◌, ◌*◌, ◌≤◌, ◌<◌, length, take, nat_abs};
-ghost use Rattle.text.specs.Text.{digits_of, signed_of, words_of};
+ghost use Rattle.std.specs.Prelude.{Some};
+ghost use Rattle.text.specs.Text.{words_of};
 
-pub fn put(out: &mut [u8], at: usize, b: u8) -> usize
-    requires { at < length out.old }
-    ensures value { result ≡ at + 1 }
-    ensures out_after { take result out.new ≡ take at out.old ++ (b ∷ []) }
-{
-    out[at] = b;
-    at + 1
-}
-
-// The decimal digits of n, at most `most` of them.
-pub fn digits(out: &mut [u8], at: usize, n: u32, most: usize) -> usize
-    requires { at + most ≤ length out.old }
-    ensures upper_bound { result ≤ at + most }
-    ensures out_after { take result out.new ≡ take at out.old ++ digits_of most n }
-{
-    if most == 0 {
-        return at;
-    }
-    if n < 10 {
-        return put(out, at, 48 + n as u8);
-    }
-    let next = digits(out, at, n / 10, most - 1);
-    put(out, next, 48 + (n % 10) as u8)
-}
-
-// The size of w.
-fn size(w: i32) -> u32
-    ensures { result ≡ nat_abs w }
-{
-    if w < 0 {
-        return (-1 - w) as u32 + 1;
-    }
-    w as u32
-}
-
-// A whole number, with its sign where it is negative.
-pub fn signed(out: &mut [u8], at: usize, w: i32) -> usize
-    requires { at + 11 ≤ length out.old }
-    ensures upper_bound { result ≤ at + 11 }
-    ensures out_after { take result out.new ≡ take at out.old ++ signed_of w }
-{
-    let n = size(w);
-    if w < 0 {
-        let next = put(out, at, b'-');
-        return digits(out, next, n, 10);
-    }
-    digits(out, at, n, 10)
-}
+use std::fmt;
 
 // Twelve words, each after a blank.
-pub fn words(out: &mut [u8], at: usize, rx: [i32; 12]) -> usize
-    requires { at + 144 ≤ length out.old }
-    ensures upper_bound { result ≤ at + 144 }
-    ensures out_after { take result out.new ≡ take at out.old ++ words_of rx }
-{
-    let mut next = at;
-    let mut i: usize = 0;
-    while i < 12 {
-        let w = rx[i];
-        let after = put(out, next, b' ');
-        next = signed(out, after, w);
-        i += 1;
+#[derive(Clone, Copy)]
+pub struct Words(pub [i32; 12]);
+
+impl fmt::Display for Words {
+    ghost output = { λ words. Some (words_of words.0) };
+
+    #[tactic(auto, unfolding(crate::specs::Text::words_of))]
+    fn fmt<W: fmt::Write>(&self, f: &mut fmt::Formatter<W>) -> fmt::Result {
+        for word in self.0 {
+            write!(f, " {word}")?;
+        }
+        Ok(())
     }
-    next
 }

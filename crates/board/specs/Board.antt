@@ -21,7 +21,7 @@ use Rattle.board.specs.declared.Analog.{Analog}
 use Rattle.board.specs.declared.Inputs.{Inputs}
 use Rattle.board.specs.declared.Answer.{Answer}
 use Rattle.board.specs.declared.refusals.Refusal.{Refusal}
-use Rattle.board.specs.declared.refusals.Refusal.TheVariants.{ShortFrame, ShortParameters, DacCount, DacRange, InputRange, BadOpening, WrongLength, NoBody}
+use Rattle.board.specs.declared.refusals.Refusal.TheVariants.{ShortFrame, ShortParameters, DacCount, DacRange, InputRange, BadOpening, WrongLength, NoBody, SlotTable, DestinationCount}
 
 -- "A fresh board is made from a 32-bit seed and an ideal mark"
 unfoldable pub fresh_of : ℕ → Bool → Analog
@@ -46,6 +46,8 @@ number_of (Some InputRange) = 5
 number_of (Some BadOpening) = 6
 number_of (Some WrongLength) = 7
 number_of (Some NoBody) = 8
+number_of (Some SlotTable) = 9
+number_of (Some DestinationCount) = 10
 
 -- a DAC word from -8388608 to 8388607
 unfoldable pub in_range : ℤ → Bool

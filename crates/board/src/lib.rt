@@ -4,6 +4,7 @@
 ghost use Rattle.std.specs.Prelude.{◌≡◌, Bool, ◌≤◌, ◌<◌, length, Some, IfOk};
 ghost use Rattle.std.specs.Result.{result_err};
 ghost use Rattle.frame.specs.Offsets.{FRAME_BYTES};
+ghost use Rattle.bus.specs.Bus.{Words};
 ghost use Rattle.board.specs.Board.{fresh_of, number_of, in_range, all_in_range, input_ok, inputs_ok, refusal_of, refused_of, words_of, stepped_of, answer_of};
 
 mod refusals;
@@ -112,7 +113,7 @@ fn inputs_ok(x: Inputs) -> bool
 
 // What a step is given beside the board, each part as long as the step reads it.
 #[derive(Drop)]
-struct Call<'a> {
+pub struct Call<'a> {
     frame: Frame<'a>,
     dac: DacWords<'a>,
     fx: Parameters<'a>,
@@ -122,7 +123,7 @@ struct Call<'a> {
 impl<'a> Call<'a> {
     // The call, or the lowest refusal that applies.
     #[tactic(auto, unfolding(crate::specs::Board::refusal_of))]
-    fn read(f: &'a [u8], dac: &'a [i32], fx: &'a [u8], x: Inputs) -> Result<Call<'a>, Refusal>
+    pub fn read(f: &'a [u8], dac: &'a [i32], fx: &'a [u8], x: Inputs) -> Result<Call<'a>, Refusal>
         ensures refusal { result_err result ≡ refusal_of f.now dac.now fx.now x }
         ensures call { IfOk result (λ c. (c.frame ≡ f.now) × (c.dac ≡ dac.now) × (c.fx ≡ fx.now) × (c.inputs ≡ x)) }
     {
@@ -169,9 +170,9 @@ fn refused(board: Analog, refusal: Refusal) -> Answer
 // ---- a step
 
 // Where the receive words have the audio inputs and the mix.
-const RX_AUDIO_IN: usize = 8;
+pub const RX_AUDIO_IN: usize = 8;
 
-const RX_MAIN: usize = 10;
+pub const RX_MAIN: usize = 10;
 
 // The receive words: of the voices, then the audio inputs and the mix, halved.
 #[tactic(auto, unfolding(crate::specs::Board::words_of))]
@@ -186,10 +187,11 @@ fn words(rx: [i32; 12], audio: Mix, mix: Mix) -> [i32; 12]
     next
 }
 
-// One sample.
-#[tactic(auto, unfolding(crate::specs::Board::stepped_of, crate::specs::Board::taken_of))]
-fn stepped(board: Analog, call: &Call) -> Answer
-    ensures { result ≡ stepped_of board call.now.frame call.now.dac call.now.fx call.now.inputs }
+// One sample, of a call that is not refused.
+#[tactic(auto, unfolding(crate::specs::Board::stepped_of, crate::specs::Board::taken_of), using(crate::proofs::Range::stepped_words))]
+pub fn stepped(board: Analog, call: &Call) -> Answer
+    ensures value { result ≡ stepped_of board call.now.frame call.now.dac call.now.fx call.now.inputs }
+    ensures words { Words result.rx }
 {
     let Analog {
         duals,

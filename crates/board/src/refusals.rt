@@ -1,7 +1,7 @@
 // Why a call is refused, as the table of refusals has it.
 #![tactic(auto)]
 
-// Why a call is refused. The last three are of a recording alone; a step never answers them.
+// Why a call is refused: a step by the first five, a recording by the next three, a step whose words are copied by the last two beside the first five.
 #[derive(Clone, Copy, PartialEq, Eq)]
 pub enum Refusal {
     ShortFrame = 1,
@@ -12,4 +12,6 @@ pub enum Refusal {
     BadOpening,
     WrongLength,
     NoBody,
+    SlotTable,
+    DestinationCount,
 }

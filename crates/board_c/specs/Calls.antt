@@ -4,8 +4,11 @@ use Rattle.board.specs.Board.{number_of, answer_of}
 use Rattle.board.specs.declared.Answer as Board
 use Rattle.board.specs.declared.Analog.{Analog}
 use Rattle.board.specs.declared.Inputs.{Inputs}
-use Rattle.promise.specs.Calls.{StepAnswer}
+use Rattle.receive.specs.Receive.{Receives}
+use Rattle.receive.specs.declared.Received as Receive
+use Rattle.promise.specs.Calls.{StepAnswer, ReceiveAnswer}
 use Rattle.board_c.specs.declared.Answer.{Answer}
+use Rattle.board_c.specs.declared.Received.{Received}
 
 -- "four f32 inputs: audio left and right, ext left and right"
 unfoldable pub inputs_of : Float → Float → Float → Float → Inputs
@@ -19,3 +22,13 @@ numbered a = record { number = number_of a.refusal; rx = a.rx; mix = a.mix; boar
 pub record Step (b : Analog) (f : List ℕ) (dac : List ℤ) (fx : List ℕ) (x : Inputs) (r : Answer) : Type 0 where
   pub is : r ≡ numbered (answer_of b f dac fx x)
   pub call : StepAnswer b f dac fx x (answer_of b f dac fx x)
+
+-- the same of a step whose words are copied
+unfoldable pub numbered_received : Receive.Received → Received
+numbered_received a = record { number = number_of a.refusal; mix = a.mix; board = a.board }
+
+pub record ReceiveStep (b : Analog) (f : List ℕ) (dac : List ℤ) (fx : List ℕ) (x : Inputs) (slots : List ℕ) (dest : List ℤ) (r : Received) (after : List ℤ) : Type 0 where
+  pub answer : Receive.Received
+  pub is : r ≡ numbered_received answer
+  pub receives : Receives b f dac fx x slots dest answer after
+  pub call : ReceiveAnswer b f dac fx x slots dest answer after

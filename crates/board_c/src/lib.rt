@@ -1,10 +1,10 @@
-// The board under C names: a fresh board, and a step. The caller tests nothing beforehand.
+// The board under C names: a fresh board, a step, and a step whose words are copied by a slot table. The caller tests nothing beforehand.
 #![tactic(auto)]
 
 ghost use Rattle.std.specs.Prelude.{◌≡◌};
 ghost use Rattle.board.specs.Board.{fresh_of};
 ghost use Rattle.promise.specs.Promise.{Promised};
-ghost use Rattle.board_c.specs.Calls.{inputs_of, Step};
+ghost use Rattle.board_c.specs.Calls.{inputs_of, Step, ReceiveStep};
 
 use board::{Analog, Inputs};
 use stereo::Mix;
@@ -19,12 +19,34 @@ pub struct Answer {
     pub board: Analog,
 }
 
+// The same of a step whose words are copied: they are in the destination.
+#[repr(C)]
+#[derive(Clone, Copy)]
+pub struct Received {
+    pub number: u32,
+    pub mix: Mix,
+    pub board: Analog,
+}
+
 // A fresh board.
 #[unsafe(no_mangle)]
 pub extern "C" fn rytm_fresh(seed: u32, ideal: bool) -> Analog
     ensures { (result ≡ fresh_of seed ideal) × Promised result }
 {
     promise::fresh(seed, ideal)
+}
+
+#[tactic(auto, unfolding(crate::specs::Calls::inputs_of))]
+fn inputs(audio_l: f32, audio_r: f32, ext_l: f32, ext_r: f32) -> Inputs
+    ensures { result ≡ inputs_of audio_l audio_r ext_l ext_r }
+{
+    Inputs {
+        audio: Mix {
+            l: audio_l,
+            r: audio_r,
+        },
+        ext: Mix { l: ext_l, r: ext_r },
+    }
 }
 
 // A step; C passes the slices and the four inputs one by one.
@@ -41,13 +63,7 @@ pub extern "C" fn rytm_step(
 ) -> Answer
     ensures { Step board frame.now dac.now fx.now (inputs_of audio_l audio_r ext_l ext_r) result }
 {
-    let x = Inputs {
-        audio: Mix {
-            l: audio_l,
-            r: audio_r,
-        },
-        ext: Mix { l: ext_l, r: ext_r },
-    };
+    let x = inputs(audio_l, audio_r, ext_l, ext_r);
     let board::Answer {
         refusal,
         rx,
@@ -57,6 +73,35 @@ pub extern "C" fn rytm_step(
     Answer {
         number: board::number(refusal),
         rx,
+        mix,
+        board,
+    }
+}
+
+// A step whose words are copied by `slots` into `dest`.
+#[unsafe(no_mangle)]
+pub extern "C" fn rytm_receive(
+    board: Analog,
+    frame: &[u8],
+    dac: &[i32],
+    fx: &[u8],
+    audio_l: f32,
+    audio_r: f32,
+    ext_l: f32,
+    ext_r: f32,
+    slots: &[u8],
+    dest: &mut [i32],
+) -> Received
+    ensures { ReceiveStep board frame.now dac.now fx.now (inputs_of audio_l audio_r ext_l ext_r) slots.now dest.old result dest.new }
+{
+    let x = inputs(audio_l, audio_r, ext_l, ext_r);
+    let receive::Received {
+        refusal,
+        mix,
+        board,
+    } = receive::receive(board, frame, dac, fx, x, slots, dest);
+    Received {
+        number: board::number(refusal),
         mix,
         board,
     }

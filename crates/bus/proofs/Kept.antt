@@ -1,11 +1,11 @@
 -- What the voices of a step do to each chain: its own sample, from some input; and every receive word stays within ±8,388,607. Assumes nothing.
-use Prim.Native.Nat.{ℕ, zero, suc, ◌≤◌, ◌<◌}
+use Prim.Native.Nat.{ℕ, zero, suc, ◌<◌}
 use native.Mathlib.Omega.{arith}
 use mathlib.Core.Path.{◌≡◌, refl}
 use mathlib.Core.List.{List, [], ◌∷◌}
 use lib.ListN.{get_or, set, length, replicate}
 use lib.Dec.{lit≤}
-use lib.IntN.{ℤ, pos, nat_abs}
+use lib.IntN.{ℤ, pos}
 use lib.Ieee.{Float, binary32}
 use lib.Ieee.Fits.{mul-fits}
 use Rattle.float.specs.Consts.{k0p5}
@@ -16,7 +16,7 @@ use Rattle.lists.proofs.Sweep.{turns_keep, Turn, turns_length, turns_at}
 use Rattle.chain.specs.declared.Chain.{Chain}
 use Rattle.chain.specs.Chain.{no_chain, process_of}
 use Rattle.bus.specs.declared.Bus.{Bus}
-use Rattle.bus.specs.Bus.{input_of, turn_of, voices_of}
+use Rattle.bus.specs.Bus.{input_of, turn_of, voices_of, Words}
 
 -- ---- each chain by its own sample
 pub record ChainBy (f : List ℕ) (v : ℕ) (old new : Chain) : Type 0 where
@@ -37,9 +37,6 @@ module _ (f : List ℕ) (dac : List ℤ) (src : List Float) (chains : List Chain
   chain_by e v h = turns_at (λ (y : Bus). y.chains) no_chain (ChainBy f) (turn_of f dac src) turn _ 8 v h (omega arith)
 
 -- ---- the words
-abbrev pub Words : List ℤ → Type 0
-Words l = (k : ℕ) → nat_abs (get_or l k (pos 0)) ≤ 8388607
-
 -- a half sample put in as a word
 pub words_set : (l : List ℤ) (i : ℕ) (x : Float) → Words l → Words (set l i (to24_of (x ⊗ k0p5)))
 words_set [] i x a k = a k

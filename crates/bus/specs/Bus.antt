@@ -1,5 +1,5 @@
 -- The voices' chains, receive words and mix, and the master distortion, from `Analog::frame`. Definitions only.
-use Rattle.std.specs.Prelude.{ℕ, ◌+◌, ◌*◌, cond, List, get_or, set, replicate, ℤ, pos, Float}
+use Rattle.std.specs.Prelude.{ℕ, ◌+◌, ◌*◌, ◌≤◌, cond, List, get_or, set, replicate, ℤ, pos, nat_abs, Float}
 use Rattle.std.specs.Float.{binary32, nan}
 use Rattle.std.specs.Float.Ieee.{neg, lt, of_int}
 use Rattle.float.specs.Consts.{k0, k1, k15, k32767, k65536, k8388608, k0p5}
@@ -50,6 +50,10 @@ turn_of f dac src v b =
 -- chains 0 to 7
 unfoldable pub voices_of : List ℕ → List ℤ → List Float → List Chain → Bus
 voices_of f dac src chains = turns_of 8 (turn_of f dac src) (record { chains = chains; rx = replicate 12 (pos 0); mix = record { l = k0; r = k0 } })
+
+-- words within ±8,388,607
+abbrev pub Words : List ℤ → Type 0
+Words l = (k : ℕ) → nat_abs (get_or l k (pos 0)) ≤ 8388607
 
 -- the master distortion from word 0
 unfoldable pub distort_of : List ℕ → Mix → Mix

@@ -1,12 +1,14 @@
-// A fresh board and its steps, and what every list of calls from it keeps.
+// A fresh board and the calls that take one, and what every list of these calls keeps.
 #![tactic(auto)]
 
 ghost use Rattle.std.specs.Prelude.{◌≡◌};
 ghost use Rattle.board.specs.Board.{fresh_of, answer_of};
-ghost use Rattle.promise.specs.Calls.{StepAnswer};
+ghost use Rattle.receive.specs.Receive.{Receives};
+ghost use Rattle.promise.specs.Calls.{StepAnswer, ReceiveAnswer};
 ghost use Rattle.promise.specs.Promise.{Promised};
 
 use board::{Analog, Answer, Inputs};
+use receive::Received;
 
 // A fresh board.
 #[tactic(auto, using(crate::proofs::Whole::fresh_promised))]
@@ -21,4 +23,20 @@ pub fn step(board: Analog, f: &[u8], dac: &[i32], fx: &[u8], x: Inputs) -> Answe
     ensures { (result ≡ answer_of board f.now dac.now fx.now x) × StepAnswer board f.now dac.now fx.now x result }
 {
     board::step(board, f, dac, fx, x)
+}
+
+// A step whose words are copied into lent memory, as a call of such a list.
+pub fn receive(
+    board: Analog,
+    f: &[u8],
+    dac: &[i32],
+    fx: &[u8],
+    x: Inputs,
+    slots: &[u8],
+    dest: &mut [i32],
+) -> Received
+    ensures value { Receives board f.now dac.now fx.now x slots.now dest.old result dest.new }
+    ensures call { ReceiveAnswer board f.now dac.now fx.now x slots.now dest.old result dest.new }
+{
+    receive::receive(board, f, dac, fx, x, slots, dest)
 }

@@ -1,2 +1,3 @@
 -- The definitions that the contracts of `slots` cite.
 pub mod Slots
+pub mod Copied

@@ -1,4 +1,3 @@
 -- Laws of `slots`.
-pub mod Numbers
 pub mod Tables
 pub mod Copy

@@ -1,0 +1,3 @@
+-- Laws of `board`.
+pub mod Range
+pub mod Numbers

@@ -1,0 +1,2 @@
+-- Laws of `receive`.
+pub mod Told

@@ -1,0 +1,58 @@
+-- What is answered and written as the definitions have it is copied as they say, and a refusal leaves all as it was. Assumes nothing.
+use Prim.Native.Nat.{ℕ}
+use mathlib.Core.Path.{◌≡◌, refl, sym, ap, subst, ◌∙◌}
+use mathlib.Core.Bool.{cond, true≢false}
+use mathlib.Core.List.{List}
+use lib.ListN.{length}
+use lib.Dec.{eqb}
+use lib.IntN.{ℤ}
+use Rattle.std.specs.Prelude.{Option, Some, None, is_some}
+use Rattle.board.specs.Board.{accepted, refusal_of, stepped_of, answered_if, answer_of}
+use Rattle.board.specs.declared.Analog.{Analog}
+use Rattle.board.specs.declared.Answer.{Answer}
+use Rattle.board.specs.declared.Inputs.{Inputs}
+use Rattle.board.specs.declared.refusals.Refusal.{Refusal}
+use Rattle.board.specs.declared.refusals.Refusal.TheVariants.{SlotTable, DestinationCount}
+use Rattle.board.proofs.Numbers.{not_accepted}
+use Rattle.slots.specs.Slots.{right_table, copy_of}
+use Rattle.slots.specs.Copied.{Copied}
+use Rattle.receive.specs.declared.Received.{Received}
+use Rattle.receive.specs.Receive.{receive_refusal_of, refused_of, received_if, written_if, received_of, destination_of, Receives}
+
+module _ (b : Analog) (f : List ℕ) (dac : List ℤ) (fx : List ℕ) (x : Inputs) (slots : List ℕ) (dest : List ℤ) where
+  abbrev told : Option Refusal
+  told = receive_refusal_of f dac fx x slots (length dest)
+
+  -- one that is not refused is a step that is not refused
+  pub step_taken : None ≡ told → answer_of b f dac fx x ≡ stepped_of b f dac fx x
+  unfolding receive_refusal_of answer_of answered_if
+  step_taken = by (refusal_of f dac fx x)
+    where
+      later : Option Refusal
+      later = cond (right_table slots) (cond (eqb (length dest) 12) None (Some DestinationCount)) (Some SlotTable)
+
+      by : (o : Option Refusal) → None ≡ cond (accepted o) later o → answered_if (accepted o) o b f dac fx x ≡ stepped_of b f dac fx x
+      by None h = refl
+      by (Some r) h = absurd (true≢false (sym (ap is_some (rw (not_accepted r) at h))))
+
+  -- the step's answer and its words, copied
+  pub taken : (a : Answer) (after : List ℤ) → None ≡ told → a ≡ stepped_of b f dac fx x → after ≡ copy_of slots a.rx → Copied slots a.rx after → Receives b f dac fx x slots dest (record { refusal = None; mix = a.mix; board = a.board }) after
+  unfolding received_of destination_of received_if written_if
+  taken a after n s w c =
+      let e : a ≡ answer_of b f dac fx x = s ∙ sym (step_taken n) in
+      record {
+        is = rw (← n, e) refl;
+        written = rw (← n) (w ∙ ap (λ (y : Answer). copy_of slots y.rx) e);
+        copied = subst (λ (y : Answer). Copied slots y.rx after) e c;
+        untouched = tt;
+      }
+
+  -- a refusal
+  pub left : (o : Refusal) (r : Received) (after : List ℤ) → Some o ≡ told → r ≡ received_if (Some o) b (answer_of b f dac fx x) → after ≡ written_if (Some o) slots (answer_of b f dac fx x) dest → Receives b f dac fx x slots dest r after
+  unfolding received_of destination_of received_if written_if refused_of
+  left o r after n e w = record {
+    is = rw (← n) e;
+    written = rw (← n) w;
+    copied = rw e tt;
+    untouched = rw e (record { words = w; mix = refl; board = refl });
+  }

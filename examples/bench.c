@@ -1,4 +1,5 @@
-/* One second of sound from one hit of every voice: the peak of each receive word, and the time it took. */
+/* One second of sound from one hit of every voice: the peak of each receive word, one step's words as the firmware copies them,
+   and the time it took. */
 #include <stdio.h>
 #include <stdlib.h>
 #include <string.h>
@@ -6,7 +7,7 @@
 
 #include "rytm.h"
 
-enum { STEPS = 48000, COMMANDS = 64, BURST = 20 };
+enum { STEPS = 48000, COMMANDS = 64, BURST = 20, COPIED = 480 };
 
 static uint8_t frame[664];
 static uint8_t fx[24];
@@ -72,7 +73,8 @@ static void hit(bool commands) {
 
 int main(void) {
     static const uint8_t compressor[8] = {80, 3, 3, 2, 0, 47, 64, 100};
-    int32_t peak[12] = {0};
+    static const uint8_t slots[8] = {0, 2, 4, 1, 3, 5, 6, 7};
+    int32_t peak[12] = {0}, copy[12] = {0};
     struct timespec from, to;
     for (int i = 0; i < 8; i++)
         fx[6 + 2 * i] = compressor[i];
@@ -83,6 +85,13 @@ int main(void) {
             hit(n == 0);
         for (int i = 8; i < 11; i++)
             dac[i] = n < BURST ? 4000000 : 0;
+        if (n == COPIED) {
+            Received r = rytm_receive(board, frame, sizeof frame, dac, 16, fx, sizeof fx, 0.25f, -0.25f, 0.0f, 0.0f, slots, sizeof slots, copy, 12);
+            if (r.number != 0) {
+                printf("the copy is refused by %u\n", (unsigned)r.number);
+                return 1;
+            }
+        }
         Answer a = rytm_step(board, frame, sizeof frame, dac, 16, fx, sizeof fx, 0.25f, -0.25f, 0.0f, 0.0f);
         if (a.number != 0) {
             printf("step %d refused by %u\n", n, (unsigned)a.number);
@@ -96,6 +105,8 @@ int main(void) {
     clock_gettime(CLOCK_MONOTONIC, &to);
     for (int i = 0; i < 12; i++)
         printf("word %2d peak %7d\n", i, (int)peak[i]);
+    for (int i = 0; i < 12; i++)
+        printf("step %d copied %2d %8d\n", COPIED, i, (int)copy[i]);
     double took = (double)(to.tv_sec - from.tv_sec) + (double)(to.tv_nsec - from.tv_nsec) / 1e9;
     printf("a second of sound in %.3f s\n", took);
     return 0;

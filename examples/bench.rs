@@ -1,4 +1,5 @@
-//! One second of sound from one hit of every voice: the peak of each receive word, and the time it took.
+//! One second of sound from one hit of every voice: the peak of each receive word, one step's words as the firmware copies them,
+//! and the time it took.
 
 #[allow(dead_code)]
 mod rytm;
@@ -8,6 +9,8 @@ use rytm::Board;
 const STEPS: usize = 48_000;
 const COMMANDS: usize = 64;
 const BURST: usize = 20;
+const COPIED: usize = 480;
+const SLOTS: [u8; 8] = [0, 2, 4, 1, 3, 5, 6, 7];
 
 struct Frame([u8; 664]);
 
@@ -72,7 +75,7 @@ fn main() {
     for (i, p) in [80, 3, 3, 2, 0, 47, 64, 100].into_iter().enumerate() {
         fx[6 + 2 * i] = p;
     }
-    let (mut frame, mut dac, mut peak) = (Frame::hit(true), [0; 16], [0; 12]);
+    let (mut frame, mut dac, mut peak, mut copy) = (Frame::hit(true), [0; 16], [0; 12], [0; 12]);
     let from = std::time::Instant::now();
     let mut board = Board::fresh(rytm::DEFAULT_SEED, false);
     for n in 0..STEPS {
@@ -80,6 +83,15 @@ fn main() {
             frame = Frame::hit(false);
         }
         dac[8..11].fill(if n < BURST { 4_000_000 } else { 0 });
+        if n == COPIED {
+            // On another board; the first goes on by the step below.
+            let mut other = board;
+            let copied = other.receive(&frame.0, &dac, &fx, [0.25, -0.25], [0.0, 0.0], &SLOTS, &mut copy);
+            if copied.number != 0 {
+                println!("the copy is refused by {}", copied.number);
+                std::process::exit(1);
+            }
+        }
         let step = board.step(&frame.0, &dac, &fx, [0.25, -0.25], [0.0, 0.0]);
         if step.number != 0 {
             println!("step {n} refused by {}", step.number);
@@ -92,6 +104,9 @@ fn main() {
     let took = from.elapsed().as_secs_f64();
     for (i, p) in peak.iter().enumerate() {
         println!("word {i:2} peak {p:7}");
+    }
+    for (i, w) in copy.iter().enumerate() {
+        println!("step {COPIED} copied {i:2} {w:8}");
     }
     println!("a second of sound in {took:.3} s");
 }

@@ -147,6 +147,14 @@ pub struct Answer {
     pub board: Analog,
 }
 
+#[repr(C)]
+#[derive(Clone, Copy, Debug)]
+pub struct Received {
+    pub number: u32,
+    pub mix: Mix,
+    pub board: Analog,
+}
+
 extern "C" {
     fn rytm_fresh(seed: u32, ideal: bool) -> Analog;
     fn rytm_step(
@@ -162,6 +170,23 @@ extern "C" {
         ext_l: f32,
         ext_r: f32,
     ) -> Answer;
+    fn rytm_receive(
+        board: Analog,
+        frame: *const u8,
+        frame_len: usize,
+        dac: *const i32,
+        dac_len: usize,
+        fx: *const u8,
+        fx_len: usize,
+        audio_l: f32,
+        audio_r: f32,
+        ext_l: f32,
+        ext_r: f32,
+        slots: *const u8,
+        slots_len: usize,
+        dest: *mut i32,
+        dest_len: usize,
+    ) -> Received;
 }
 
 /// A board's seed where none is given.
@@ -174,6 +199,14 @@ pub struct Step {
     pub number: u32,
     /// Voices 0 to 7, audio in left and right, main left and right; 24 bits signed.
     pub rx: [i32; 12],
+    pub mix: Mix,
+}
+
+/// What one step gives besides its copied words and the next board.
+#[derive(Clone, Copy, Debug)]
+pub struct Copied {
+    /// 0, or the number of the refusal.
+    pub number: u32,
     pub mix: Mix,
 }
 
@@ -207,5 +240,17 @@ impl Board {
         let answer = unsafe { rytm_step(self.state, f, frame.len(), d, dac.len(), p, fx.len(), audio[0], audio[1], ext[0], ext[1]) };
         self.state = answer.board;
         Step { number: answer.number, rx: answer.rx, mix: answer.mix }
+    }
+
+    /// One sample whose words go to `dest` as the firmware's audio interrupt copies them, every one negated: main left and
+    /// right, the voices that the eight slots name, audio in left and right. A refusal leaves board and `dest` as they were.
+    #[allow(clippy::too_many_arguments)]
+    pub fn receive(&mut self, frame: &[u8], dac: &[i32], fx: &[u8], audio: [f32; 2], ext: [f32; 2], slots: &[u8], dest: &mut [i32]) -> Copied {
+        let (f, d, p, s, to) = (frame.as_ptr(), dac.as_ptr(), fx.as_ptr(), slots.as_ptr(), dest.as_mut_ptr());
+        let (fl, dl, pl, sl, tl) = (frame.len(), dac.len(), fx.len(), slots.len(), dest.len());
+        // Each pointer goes with its slice's length; what is written is `dest` alone, which nothing else lent overlaps.
+        let answer = unsafe { rytm_receive(self.state, f, fl, d, dl, p, pl, audio[0], audio[1], ext[0], ext[1], s, sl, to, tl) };
+        self.state = answer.board;
+        Copied { number: answer.number, mix: answer.mix }
     }
 }

@@ -86,6 +86,14 @@ typedef struct {
     Analog board;
 } Answer;
 
+/* What a step gives whose words are copied. number as above, and after 5: 9 a slot table that is not eight bytes naming each
+   of 0 to 7 once, 10 a destination that is not twelve words. */
+typedef struct {
+    uint32_t number;
+    Mix mix;
+    Analog board;
+} Received;
+
 /* A board's seed where none is given. */
 #define RYTM_DEFAULT_SEED UINT32_C(0x2545F491)
 
@@ -95,6 +103,13 @@ Analog rytm_fresh(uint32_t seed, bool ideal);
 /* One sample. A refusal gives zeros and the same board; nothing lent is written. */
 Answer rytm_step(Analog board, const uint8_t *frame, size_t frame_len, const int32_t *dac, size_t dac_len,
                  const uint8_t *fx, size_t fx_len, float audio_l, float audio_r, float ext_l, float ext_r);
+
+/* One sample whose words go to dest as the firmware's audio interrupt copies them, every one negated: main left and right,
+   the voices that the eight slots name, audio in left and right. A refusal gives mix 0 and the same board, and dest keeps
+   its words. dest overlaps nothing else that is lent; nothing else is written. */
+Received rytm_receive(Analog board, const uint8_t *frame, size_t frame_len, const int32_t *dac, size_t dac_len,
+                      const uint8_t *fx, size_t fx_len, float audio_l, float audio_r, float ext_l, float ext_r,
+                      const uint8_t *slots, size_t slots_len, int32_t *dest, size_t dest_len);
 
 /* 2 to the power x. */
 float rytm_exp2(float x);

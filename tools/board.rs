@@ -6,6 +6,7 @@
 //!     --seed S            seed of the generated steps (default 1)
 //!     --recording FILE    the steps of a recording (edition 1) instead; a bad one ends with status 2
 //!     --print             of each step of the recording the Rust's answer: outcome, twelve words, mix bit patterns
+//!     --receive           each generated step by the call that copies its words, with slot tables and destinations of every kind
 //!     --record FILE       writes a recording of N generated steps of all styles (at most 4096), and compares nothing
 //!
 //! Of an oracle without R-3 (tools/oracle) the FM phases that the request changes are counted apart, and have to be all that it met.
@@ -36,6 +37,8 @@ mod boards;
 mod desk;
 #[path = "board/met.rs"]
 mod met;
+#[path = "board/receive.rs"]
+mod receive;
 #[path = "board/recording.rs"]
 mod recording;
 #[path = "board/sides.rs"]
@@ -49,6 +52,7 @@ use frames::{Style, STYLES};
 use met::{Count, Met};
 use oracle::analog as rust;
 use oracle::counted;
+use receive::{Lent, Sides};
 use recording::{Recording, Writer};
 use rng::Rng;
 use rytm::{Analog, Answer, Board, Mix};
@@ -72,13 +76,14 @@ struct Report {
     /// FM phases of 1 in an oracle without R-3 where the port has 0.
     phases: u64,
     met: Met,
+    copies: receive::Met,
     /// Curve calls, of boards that came from fresh ones and of random ones.
     curves: [[counted::Count; counted::NAMES.len()]; 2],
 }
 
 impl Report {
     fn new() -> Report {
-        Report { steps: 0, differ: 0, of: Vec::new(), phases: 0, met: Met::new(), curves: [counted::take(); 2] }
+        Report { steps: 0, differ: 0, of: Vec::new(), phases: 0, met: Met::new(), copies: receive::Met::new(), curves: [counted::take(); 2] }
     }
 
     /// Takes the counts of the curve calls since the last time.
@@ -139,20 +144,29 @@ impl Report {
         true
     }
 
-    /// One step by both; the port goes on from the Rust's board where they differ. The Rust's answer.
-    fn step(&mut self, twin: &mut Twin, case: &Case, place: &str) -> Answer {
+    /// One step by both, by the call that copies its words where something is lent for that; the port goes on from the Rust's
+    /// board where they differ. The Rust's answer.
+    fn step(&mut self, twin: &mut Twin, case: &Case, copy: Option<&Lent>, place: &str) -> Answer {
         let before = twin.board;
         let lent = (case.frame.to_vec(), case.dac.to_vec(), case.fx.to_vec());
-        let ours = sides::port_step(&mut twin.port, case);
-        let written = lent.0 != case.frame || lent.1 != case.dac || lent.2 != case.fx;
-        let theirs = sides::rust_step(&mut twin.rust, case);
+        let Sides { port: ours, rust: theirs, same, raw } = match copy {
+            Some(copy) => receive::call(&mut twin.port, &mut twin.rust, case, copy, &mut self.copies),
+            None => {
+                let rust = sides::rust_step(&mut twin.rust, case);
+                Sides { port: sides::port_step(&mut twin.port, case), rust, same: true, raw: rust.rx }
+            }
+        };
+        let written = !same || lent.0 != case.frame || lent.1 != case.dac || lent.2 != case.fx;
         twin.board = theirs.board;
-        self.met.note(&before, case, &theirs);
+        self.met.note(&before, case, &Answer { rx: raw, ..theirs });
         let at = self.steps;
         self.steps += 1;
         let tell = || {
             println!("step {at} differs: {place}");
             case.print();
+            if let Some(copy) = copy {
+                copy.print();
+            }
             let of = Answer { board: before, ..theirs };
             println!("  board before: {}", sides::row(&of).all(&sides::names(&of), 15));
         };
@@ -160,16 +174,23 @@ impl Report {
             twin.port = Board::of(theirs.board);
         } else if written {
             if self.differ == 0 {
-                println!("step {at} wrote lent memory: {place}");
+                println!("step {at} wrote lent memory, or not the words of the copy: {place}");
+                case.print();
+                if let Some(copy) = copy {
+                    copy.print();
+                }
             }
             self.differ += 1;
         }
         theirs
     }
 
-    fn end(&self, coverage: bool) -> ! {
+    fn end(&self, coverage: bool, copies: bool) -> ! {
         if coverage {
             self.met.print();
+            if copies {
+                self.copies.print();
+            }
             self.print_curves();
         }
         if !self.of.is_empty() {
@@ -203,7 +224,7 @@ fn stuck(b: &Analog) -> bool {
 }
 
 /// Generated steps, in episodes of every style.
-fn generated(report: &mut Report, steps: u64, seed: u64) {
+fn generated(report: &mut Report, steps: u64, seed: u64, copies: bool) {
     let mut rng = Rng::new(seed);
     let rng = &mut rng;
     let mut episode = 0;
@@ -225,7 +246,8 @@ fn generated(report: &mut Report, steps: u64, seed: u64) {
                 twin = Twin { port: Board::of(board), rust: board.rust(), board, random: true };
                 report.met.add(Count::Random, true);
             }
-            report.step(&mut twin, &desk.case(), &place);
+            let copy = copies.then(|| Lent::new(rng));
+            report.step(&mut twin, &desk.case(), copy.as_ref(), &place);
             if stuck(&twin.board) && rng.one_in(256) {
                 report.tally(twin.random);
                 twin = report.fresh(seed, ideal);
@@ -243,7 +265,7 @@ fn recorded(report: &mut Report, file: &str, print: bool) {
     let mut twin = report.fresh(recording.seed, recording.ideal);
     for step in 0..recording.contents.len() {
         let place = format!("{file}, body {}", recording.contents[step]);
-        let a = report.step(&mut twin, &recording.case(step), &place);
+        let a = report.step(&mut twin, &recording.case(step), None, &place);
         if print {
             let words: Vec<String> = a.rx.iter().map(|w| w.to_string()).collect();
             println!("{} {} {:08x} {:08x}", a.number, words.join(" "), bits(a.mix.l), bits(a.mix.r));
@@ -276,7 +298,7 @@ fn stop(why: &str) -> ! {
 }
 
 fn main() {
-    let (mut steps, mut seed, mut file, mut print, mut to) = (2_000_000, 1, None, false, None);
+    let (mut steps, mut seed, mut file, mut print, mut to, mut copies) = (2_000_000, 1, None, false, None, false);
     let mut words = std::env::args().skip(1);
     while let Some(word) = words.next() {
         let mut value = || words.next().unwrap_or_else(|| stop(&format!("{word}: a value is missing")));
@@ -286,9 +308,13 @@ fn main() {
             "--seed" => seed = number(value()),
             "--recording" => file = Some(value()),
             "--print" => print = true,
+            "--receive" => copies = true,
             "--record" => to = Some(value()),
-            _ => stop("options: --steps N --seed S [--record FILE] | --recording FILE [--print]"),
+            _ => stop("options: --steps N --seed S [--receive | --record FILE] | --recording FILE [--print]"),
         }
+    }
+    if copies && (file.is_some() || to.is_some()) {
+        stop("--receive is for generated steps that are compared");
     }
     if let Some(to) = to {
         return record(&to, steps, seed);
@@ -298,7 +324,7 @@ fn main() {
     match file {
         Some(file) => recorded(&mut report, &file, print),
         None if print => stop("--print needs --recording"),
-        None => generated(&mut report, steps, seed),
+        None => generated(&mut report, steps, seed, copies),
     }
-    report.end(!print);
+    report.end(!print, copies);
 }

@@ -108,7 +108,8 @@ const FILTERS: [&str; 8] = ["0 LP2", "1 BP", "2 HP1", "3 PK", "4 HP2", "5 BS", "
 
 pub struct Met {
     count: [u64; NAMES.len()],
-    answers: [u64; 6],
+    /// By number; those of a step are 0 to 5.
+    answers: [u64; 11],
     sources: Coverage,
     filter: [[u64; 8]; 8],
     routed_off: [u64; 8],
@@ -117,7 +118,7 @@ pub struct Met {
 
 impl Met {
     pub fn new() -> Met {
-        Met { count: [0; NAMES.len()], answers: [0; 6], sources: Coverage::new(), filter: [[0; 8]; 8], routed_off: [0; 8], groups: [[0; 10]; 5] }
+        Met { count: [0; NAMES.len()], answers: [0; 11], sources: Coverage::new(), filter: [[0; 8]; 8], routed_off: [0; 8], groups: [[0; 10]; 5] }
     }
 
     pub fn add(&mut self, c: Count, met: bool) {
@@ -277,8 +278,8 @@ impl Met {
     }
 
     pub fn print(&self) {
-        for (n, c) in self.answers.iter().enumerate() {
-            let name = ["done", "short frame", "short parameters", "DAC count", "DAC range", "input range"][n];
+        let names = ["done", "short frame", "short parameters", "DAC count", "DAC range", "input range"];
+        for (n, (name, c)) in names.iter().zip(&self.answers).enumerate() {
             println!("{:50}{c:>12}", format!("answer {n}, {name}"));
         }
         println!("{:26}{}", "filter code by voice", (0..8).map(|v| format!("{v:>12}")).collect::<String>());

@@ -1,7 +1,6 @@
 -- The copy by a right table: which word is which, the voices rearranged and negated, and brought back by the opposite table. Assumes nothing.
 use Prim.Native.Nat.{ℕ, zero, suc, ◌+◌, ◌-◌, ◌≤◌, ◌<◌}
 use native.Mathlib.Omega.{arith}
-use native.Mathlib.Decide.{dec_lt}
 use mathlib.Core.Path.{◌≡◌, refl, sym, ap, subst, ◌∙◌}
 use mathlib.Core.Bool.{true}
 use mathlib.Core.List.{List, [], ◌∷◌, map, map-append}
@@ -19,9 +18,18 @@ use Rattle.lists.proofs.Sweep.{each_length, each_at}
 use Rattle.bus.specs.Bus.{Words}
 use Rattle.slots.specs.Slots.{voices, right_table, opposite_of, raw_of, negated_of, copy_of}
 use Rattle.slots.specs.Copied.{raw_voices, copied_voices, Negates, Copied}
-use Rattle.slots.proofs.Tables.{names, right_length, right_below, right_rearranged, right_slot, opposite_at, opposite_length, opposite_is_right}
+use Rattle.slots.proofs.Tables.{names, right_length, right_rearranged, right_slot, opposite_at, opposite_length, opposite_is_right}
 
--- ---- the range
+-- ---- words at their places, negated
+module _ (words : List ℤ) (places : List ℕ) where
+  negated_length : length (negated_of words places) ≡ length places
+  unfolding negated_of
+  negated_length = length-map places _
+
+  negated_at : (i : ℕ) → i < length places → Negates words (negated_of words places) i (get_or places i 0)
+  unfolding negated_of
+  negated_at i l = get_or-map _ places i 0 (pos 0) l
+
 neg_size : (z : ℤ) → nat_abs (neg_ℤ z) ≡ nat_abs z
 neg_size (pos zero) = refl
 neg_size (pos (suc n)) = refl
@@ -67,27 +75,18 @@ module _ (t : List ℕ) (right : right_table t ≡ true) where
       by (suc zero) l = refl
       by (suc (suc k)) l = absurd (omega arith)
 
-  -- each of them is one of the twelve
-  pub raw_below : (i : ℕ) → i < 12 → get_or (raw_of t) i 0 < 12
-  raw_below i l = by (dec_lt i 2) (dec_lt i 10)
-    where
-      by : Dec (i < 2) → Dec (i < 10) → get_or (raw_of t) i 0 < 12
-      by (yes a) b = omega (arith, raw_main t i a)
-      by (no a) (yes b) = omega (arith, raw_voice i (omega arith) b, right_below t right (i - 2) (omega arith))
-      by (no a) (no b) = omega (arith, raw_audio_in i (omega arith) l)
-
 -- ---- by a right table
 module _ (t : List ℕ) (rx : List ℤ) (right : right_table t ≡ true) (long : length rx ≡ 12) where
   abbrev negated : ℕ → ℤ
   negated v = neg_ℤ (get_or rx v (pos 0))
 
   copy_length : length (copy_of t rx) ≡ 12
-  unfolding copy_of negated_of
-  copy_length = length-map (raw_of t) _ ∙ raw_length t right
+  unfolding copy_of
+  copy_length = negated_length rx (raw_of t) ∙ raw_length t right
 
   copy_at : (i : ℕ) → i < 12 → Negates rx (copy_of t rx) i (get_or (raw_of t) i 0)
-  unfolding copy_of negated_of
-  copy_at i l = get_or-map _ (raw_of t) i 0 (pos 0) (omega (arith, raw_length t right))
+  unfolding copy_of
+  copy_at i l = negated_at rx (raw_of t) i (omega (arith, raw_length t right))
 
   -- the voices of the copy are those that the table names
   voices_by : copied_voices (copy_of t rx) ≡ negated_of rx t
@@ -106,24 +105,21 @@ module _ (t : List ℕ) (rx : List ℤ) (right : right_table t ≡ true) (long :
   unfolding negated_of
   rearranged = rw (spelled, voices_by) (IsPermutation-map (λ v. neg_ℤ (get_or rx v (pos 0))) voices t (right_rearranged t right))
 
-  back : negated_of (copied_voices (copy_of t rx)) (opposite_of t) ≡ raw_voices rx
-  unfolding negated_of
-  back =
-      rw voices_by
-      (ext_get_or (pos 0) (map (λ s. neg_ℤ (get_or (negated_of rx t) s (pos 0))) (opposite_of t)) (raw_voices rx) (size ∙ sym raw_voices_length)
-      (λ v l. let i : v < 8 = omega (arith, size) in at v i ∙ sym (get_or-take 8 rx v (pos 0) i)))
-    where
-      size : length (map (λ s. neg_ℤ (get_or (negated_of rx t) s (pos 0))) (opposite_of t)) ≡ 8
-      size = length-map (opposite_of t) (λ s. neg_ℤ (get_or (negated_of rx t) s (pos 0))) ∙ opposite_length t right
+  -- a voice that was negated where its slot has it is negated again where the opposite table has that slot
+  twice : (v : ℕ) → v < 8 → get_or (negated_of (negated_of rx t) (opposite_of t)) v (pos 0) ≡ get_or rx v (pos 0)
+  twice v l =
+      let k = right_slot t right v l in
+      negated_at (negated_of rx t) (opposite_of t) v (omega (arith, opposite_length t right))
+      ∙ ap (λ (s : ℕ). neg_ℤ (get_or (negated_of rx t) s (pos 0))) (opposite_at t right v l)
+      ∙ ap neg_ℤ (negated_at rx t (position_or_len (names v) t) (omega (arith, k.0, right_length t right)) ∙ ap negated k.1)
+      ∙ neg_ℤ-neg_ℤ (get_or rx v (pos 0))
 
-      at : (v : ℕ) → v < 8 → get_or (map (λ s. neg_ℤ (get_or (negated_of rx t) s (pos 0))) (opposite_of t)) v (pos 0) ≡ get_or rx v (pos 0)
-      at v i =
-          let k = right_slot t right v i in
-          get_or-map (λ s. neg_ℤ (get_or (negated_of rx t) s (pos 0))) (opposite_of t) v 0 (pos 0) (omega (arith, opposite_length t right))
-          ∙ ap (λ (s : ℕ). neg_ℤ (get_or (negated_of rx t) s (pos 0))) (opposite_at t right v i)
-          ∙ ap neg_ℤ (get_or-map (λ u. neg_ℤ (get_or rx u (pos 0))) t (position_or_len (names v) t) 0 (pos 0) (omega (arith, k.0, right_length t right)))
-          ∙ ap (λ (u : ℕ). neg_ℤ (neg_ℤ (get_or rx u (pos 0)))) k.1
-          ∙ neg_ℤ-neg_ℤ (get_or rx v (pos 0))
+  back : negated_of (copied_voices (copy_of t rx)) (opposite_of t) ≡ raw_voices rx
+  back =
+      let eight = negated_length (negated_of rx t) (opposite_of t) ∙ opposite_length t right in
+      rw voices_by
+      (ext_get_or (pos 0) (negated_of (negated_of rx t) (opposite_of t)) (raw_voices rx) (eight ∙ sym raw_voices_length)
+      (λ v l. let i : v < 8 = rw eight at l in twice v i ∙ sym (get_or-take 8 rx v (pos 0) i)))
 
   pub copied : Words rx → Copied t rx (copy_of t rx)
   copied h = record {

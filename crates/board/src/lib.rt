@@ -4,7 +4,7 @@
 ghost use Rattle.std.specs.Prelude.{◌≡◌, Bool, ◌≤◌, ◌<◌, length, Some, IfOk};
 ghost use Rattle.std.specs.Result.{result_err};
 ghost use Rattle.frame.specs.Offsets.{FRAME_BYTES};
-ghost use Rattle.bus.specs.Bus.{Words};
+ghost use Rattle.bus.specs.Bus.{InWordRange};
 ghost use Rattle.board.specs.Board.{fresh_of, number_of, in_range, all_in_range, input_ok, inputs_ok, refusal_of, refused_of, words_of, stepped_of, answer_of};
 
 mod refusals;
@@ -113,17 +113,22 @@ fn inputs_ok(x: Inputs) -> bool
 
 // What a step is given beside the board, each part as long as the step reads it.
 #[derive(Drop)]
-pub struct Call<'a> {
+pub struct StepCall<'a> {
     frame: Frame<'a>,
     dac: DacWords<'a>,
     fx: Parameters<'a>,
     inputs: Inputs,
 }
 
-impl<'a> Call<'a> {
+impl<'a> StepCall<'a> {
     // The call, or the lowest refusal that applies.
     #[tactic(auto, unfolding(crate::specs::Board::refusal_of))]
-    pub fn read(f: &'a [u8], dac: &'a [i32], fx: &'a [u8], x: Inputs) -> Result<Call<'a>, Refusal>
+    pub fn read(
+        f: &'a [u8],
+        dac: &'a [i32],
+        fx: &'a [u8],
+        x: Inputs,
+    ) -> Result<StepCall<'a>, Refusal>
         ensures refusal { result_err result ≡ refusal_of f.now dac.now fx.now x }
         ensures call { IfOk result (λ c. (c.frame ≡ f.now) × (c.dac ≡ dac.now) × (c.fx ≡ fx.now) × (c.inputs ≡ x)) }
     {
@@ -139,7 +144,7 @@ impl<'a> Call<'a> {
         if !inputs_ok(x) {
             return Err(Refusal::InputRange);
         }
-        Ok(Call {
+        Ok(StepCall {
             frame,
             dac: sixteen,
             fx,
@@ -148,11 +153,11 @@ impl<'a> Call<'a> {
     }
 }
 
-// The lowest that applies. Slices of any length, one by one: what a caller has before anything is tested; `Call` is what is left of them.
+// The lowest that applies. Slices of any length, one by one: what a caller has before anything is tested; `StepCall` is what is left of them.
 pub fn refusal(f: &[u8], dac: &[i32], fx: &[u8], x: Inputs) -> Option<Refusal>
     ensures { result ≡ refusal_of f.now dac.now fx.now x }
 {
-    Call::read(f, dac, fx, x).err()
+    StepCall::read(f, dac, fx, x).err()
 }
 
 #[tactic(auto, unfolding(crate::specs::Board::refused_of))]
@@ -189,9 +194,9 @@ fn words(rx: [i32; 12], audio: Mix, mix: Mix) -> [i32; 12]
 
 // One sample, of a call that is not refused.
 #[tactic(auto, unfolding(crate::specs::Board::stepped_of, crate::specs::Board::taken_of), using(crate::proofs::Range::stepped_words))]
-pub fn stepped(board: Analog, call: &Call) -> Answer
+pub fn stepped(board: Analog, call: &StepCall) -> Answer
     ensures value { result ≡ stepped_of board call.now.frame call.now.dac call.now.fx call.now.inputs }
-    ensures words { Words result.rx }
+    ensures words { InWordRange result.rx }
 {
     let Analog {
         duals,
@@ -246,7 +251,7 @@ pub fn stepped(board: Analog, call: &Call) -> Answer
 pub fn step(board: Analog, f: &[u8], dac: &[i32], fx: &[u8], x: Inputs) -> Answer
     ensures { result ≡ answer_of board f.now dac.now fx.now x }
 {
-    match Call::read(f, dac, fx, x) {
+    match StepCall::read(f, dac, fx, x) {
         Ok(call) => stepped(board, &call),
         Err(refusal) => refused(board, refusal),
     }

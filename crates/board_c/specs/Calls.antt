@@ -4,7 +4,7 @@ use Rattle.board.specs.Board.{number_of, answer_of}
 use Rattle.board.specs.declared.Answer as Board
 use Rattle.board.specs.declared.Analog.{Analog}
 use Rattle.board.specs.declared.Inputs.{Inputs}
-use Rattle.receive.specs.Receive.{Receives}
+use Rattle.receive.specs.Receive.{received_of, Receives}
 use Rattle.receive.specs.declared.Received as Receive
 use Rattle.promise.specs.Calls.{StepAnswer, ReceiveAnswer}
 use Rattle.board_c.specs.declared.Answer.{Answer}
@@ -28,7 +28,6 @@ unfoldable pub numbered_received : Receive.Received → Received
 numbered_received a = record { number = number_of a.refusal; mix = a.mix; board = a.board }
 
 pub record ReceiveStep (b : Analog) (f : List ℕ) (dac : List ℤ) (fx : List ℕ) (x : Inputs) (slots : List ℕ) (dest : List ℤ) (r : Received) (after : List ℤ) : Type 0 where
-  pub answer : Receive.Received
-  pub is : r ≡ numbered_received answer
-  pub receives : Receives b f dac fx x slots dest answer after
-  pub call : ReceiveAnswer b f dac fx x slots dest answer after
+  pub is : r ≡ numbered_received (received_of b f dac fx x slots dest)
+  pub receives : Receives b f dac fx x slots dest (received_of b f dac fx x slots dest) after
+  pub call : ReceiveAnswer b f dac fx x slots dest (received_of b f dac fx x slots dest) after

@@ -16,7 +16,7 @@ use Rattle.lists.proofs.Sweep.{turns_keep, Turn, turns_length, turns_at}
 use Rattle.chain.specs.declared.Chain.{Chain}
 use Rattle.chain.specs.Chain.{no_chain, process_of}
 use Rattle.bus.specs.declared.Bus.{Bus}
-use Rattle.bus.specs.Bus.{input_of, turn_of, voices_of, Words}
+use Rattle.bus.specs.Bus.{input_of, turn_of, voices_of, InWordRange}
 
 -- ---- each chain by its own sample
 pub record ChainBy (f : List ℕ) (v : ℕ) (old new : Chain) : Type 0 where
@@ -38,18 +38,18 @@ module _ (f : List ℕ) (dac : List ℤ) (src : List Float) (chains : List Chain
 
 -- ---- the words
 -- a half sample put in as a word
-pub words_set : (l : List ℤ) (i : ℕ) (x : Float) → Words l → Words (set l i (to24_of (x ⊗ k0p5)))
+pub words_set : (l : List ℤ) (i : ℕ) (x : Float) → InWordRange l → InWordRange (set l i (to24_of (x ⊗ k0p5)))
 words_set [] i x a k = a k
 words_set (y ∷ l) zero x a zero = word_in (x ⊗ k0p5) (mul-fits binary32 x k0p5)
 words_set (y ∷ l) zero x a (suc k) = a (suc k)
 words_set (y ∷ l) (suc i) x a zero = a 0
 words_set (y ∷ l) (suc i) x a (suc k) = words_set l i x (λ j. a (suc j)) k
 
-pub words_zero : (n : ℕ) → Words (replicate n (pos 0))
+pub words_zero : (n : ℕ) → InWordRange (replicate n (pos 0))
 words_zero zero k = lit≤ tt
 words_zero (suc n) zero = lit≤ tt
 words_zero (suc n) (suc k) = words_zero n k
 
-pub voices_in : (f : List ℕ) (dac : List ℤ) (src : List Float) (chains : List Chain) → Words (voices_of f dac src chains).rx
+pub voices_in : (f : List ℕ) (dac : List ℤ) (src : List Float) (chains : List Chain) → InWordRange (voices_of f dac src chains).rx
 unfolding voices_of turn_of
-voices_in f dac src chains = turns_keep (λ (b : Bus). Words b.rx) 8 (turn_of f dac src) _ (λ v b l a. words_set b.rx v _ a) (words_zero 12)
+voices_in f dac src chains = turns_keep (λ (b : Bus). InWordRange b.rx) 8 (turn_of f dac src) _ (λ v b l a. words_set b.rx v _ a) (words_zero 12)

@@ -51,9 +51,9 @@ turn_of f dac src v b =
 unfoldable pub voices_of : List ℕ → List ℤ → List Float → List Chain → Bus
 voices_of f dac src chains = turns_of 8 (turn_of f dac src) (record { chains = chains; rx = replicate 12 (pos 0); mix = record { l = k0; r = k0 } })
 
--- words within ±8,388,607
-abbrev pub Words : List ℤ → Type 0
-Words l = (k : ℕ) → nat_abs (get_or l k (pos 0)) ≤ 8388607
+-- each word within ±8,388,607
+abbrev pub InWordRange : List ℤ → Type 0
+InWordRange l = (k : ℕ) → nat_abs (get_or l k (pos 0)) ≤ 8388607
 
 -- the master distortion from word 0
 unfoldable pub distort_of : List ℕ → Mix → Mix

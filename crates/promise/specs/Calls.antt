@@ -44,7 +44,7 @@ abbrev pub outcome_of : Call → Option Refusal
 outcome_of (step g) = refusal_of g.frame g.dac g.fx g.inputs
 outcome_of (receive g slots dest) = receive_refusal_of g.frame g.dac g.fx g.inputs slots (length dest)
 
--- the words that it answers, or that it writes into its destination: none, where it is refused
+-- the words that it answers; of a copy those that it writes into its destination, and none where it is refused
 abbrev pub words_of : Analog → Call → List ℤ
 words_of b (step g) = (answer b g).rx
 words_of b (receive g slots dest) = written_of (outcome_of (receive g slots dest)) (copy_of slots (answer b g).rx)

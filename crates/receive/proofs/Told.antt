@@ -1,4 +1,4 @@
--- What is answered and written as the definitions have it is copied as they say, and a refusal leaves all as it was. Assumes nothing.
+-- What is answered and written as the definitions have it is copied as they say, and a refusal leaves destination and board. Assumes nothing.
 use Prim.Native.Nat.{ℕ}
 use mathlib.Core.Path.{◌≡◌, refl, sym, ap, subst, ◌∙◌}
 use mathlib.Core.Bool.{cond, true≢false}
@@ -36,9 +36,9 @@ module _ (b : Analog) (f : List ℕ) (dac : List ℤ) (fx : List ℕ) (x : Input
       by (Some r) h = absurd (true≢false (sym (ap is_some (rw (not_accepted r) at h))))
 
   -- the step's answer and its words, copied
-  pub taken : (a : Answer) (after : List ℤ) → None ≡ told → a ≡ stepped_of b f dac fx x → after ≡ copy_of slots a.rx → Copied slots a.rx after → Receives b f dac fx x slots dest (record { refusal = None; mix = a.mix; board = a.board }) after
+  pub accepted_receives : (a : Answer) (after : List ℤ) → None ≡ told → a ≡ stepped_of b f dac fx x → after ≡ copy_of slots a.rx → Copied slots a.rx after → Receives b f dac fx x slots dest (record { refusal = None; mix = a.mix; board = a.board }) after
   unfolding received_of destination_of received_if written_if
-  taken a after n s w c =
+  accepted_receives a after n s w c =
       let e : a ≡ answer_of b f dac fx x = s ∙ sym (step_taken n) in
       record {
         is = rw (← n, e) refl;
@@ -48,9 +48,9 @@ module _ (b : Analog) (f : List ℕ) (dac : List ℤ) (fx : List ℕ) (x : Input
       }
 
   -- a refusal
-  pub left : (o : Refusal) (r : Received) (after : List ℤ) → Some o ≡ told → r ≡ received_if (Some o) b (answer_of b f dac fx x) → after ≡ written_if (Some o) slots (answer_of b f dac fx x) dest → Receives b f dac fx x slots dest r after
+  pub refused_receives : (o : Refusal) (r : Received) (after : List ℤ) → Some o ≡ told → r ≡ received_if (Some o) b (answer_of b f dac fx x) → after ≡ written_if (Some o) slots (answer_of b f dac fx x) dest → Receives b f dac fx x slots dest r after
   unfolding received_of destination_of received_if written_if refused_of
-  left o r after n e w = record {
+  refused_receives o r after n e w = record {
     is = rw (← n) e;
     written = rw (← n) w;
     copied = rw e tt;

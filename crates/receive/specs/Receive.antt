@@ -38,7 +38,7 @@ received_of b f dac fx x slots dest = received_if (receive_refusal_of f dac fx x
 unfoldable pub destination_of : Analog → List ℕ → List ℤ → List ℕ → Inputs → List ℕ → List ℤ → List ℤ
 destination_of b f dac fx x slots dest = written_if (receive_refusal_of f dac fx x slots (length dest)) slots (answer_of b f dac fx x) dest
 
--- a refusal leaves all as it was
+-- a refusal leaves destination and board, and its mix is 0 and 0
 pub record Untouched (b : Analog) (dest : List ℤ) (r : Received) (after : List ℤ) : Type 0 where
   pub words : after ≡ dest
   pub mix : r.mix ≡ record { l = k0; r = k0 }

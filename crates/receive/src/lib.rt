@@ -1,11 +1,11 @@
 // A step whose receive words are copied into lent memory, as the firmware's audio interrupt copies them.
 #![tactic(auto)]
 
-ghost use Rattle.std.specs.Prelude.{◌≡◌, ℕ, length, IfOk};
+ghost use Rattle.std.specs.Prelude.{◌≡◌, IfOk};
 ghost use Rattle.std.specs.Result.{result_err};
 ghost use Rattle.receive.specs.Receive.{receive_refusal_of, refused_of, Receives};
 
-use board::{Analog, Answer, Call, Inputs, Refusal};
+use board::{Analog, Answer, Inputs, Refusal, StepCall};
 use slots::SlotTable;
 use stereo::Mix;
 
@@ -20,7 +20,7 @@ pub struct Received {
 // What such a step is given beside the board, as it was tested: the step's call, and the slot table.
 #[derive(Drop)]
 struct Copying<'a> {
-    call: Call<'a>,
+    call: StepCall<'a>,
     slots: SlotTable<'a>,
 }
 
@@ -38,7 +38,7 @@ impl<'a> Copying<'a> {
         ensures refusal { result_err result ≡ receive_refusal_of f.now dac.now fx.now x slots.now room }
         ensures call { IfOk result (λ c. (c.call.frame ≡ f.now) × (c.call.dac ≡ dac.now) × (c.call.fx ≡ fx.now) × (c.call.inputs ≡ x) × (c.slots ≡ slots.now) × (room ≡ 12)) }
     {
-        let call = Call::read(f, dac, fx, x)?;
+        let call = StepCall::read(f, dac, fx, x)?;
         let slots = SlotTable::new(slots).ok_or(Refusal::SlotTable)?;
         if room != 12 {
             return Err(Refusal::DestinationCount);

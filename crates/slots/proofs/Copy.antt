@@ -15,10 +15,11 @@ use Rattle.std.proofs.lemmas.List.Sorted.{IsPermutation-map}
 use Rattle.std.proofs.lemmas.List.FromFn.{fill_by_all}
 use Rattle.lists.specs.Turns.{each_of}
 use Rattle.lists.proofs.Sweep.{each_length, each_at}
-use Rattle.bus.specs.Bus.{Words}
+use Rattle.bus.specs.Bus.{InWordRange}
 use Rattle.slots.specs.Slots.{voices, right_table, opposite_of, raw_of, negated_of, copy_of}
 use Rattle.slots.specs.Copied.{raw_voices, copied_voices, Negates, Copied}
-use Rattle.slots.proofs.Tables.{names, right_length, right_rearranged, right_slot, opposite_at, opposite_length, opposite_is_right}
+use Rattle.slots.proofs.Below.{names}
+use Rattle.slots.proofs.Tables.{right_length, right_rearranged, right_slot, opposite_at, opposite_length, opposite_is_right, is_right_table}
 
 -- ---- words at their places, negated
 module _ (words : List ℤ) (places : List ℕ) where
@@ -35,13 +36,13 @@ neg_size (pos zero) = refl
 neg_size (pos (suc n)) = refl
 neg_size (negsuc n) = refl
 
-negated_words : (rx : List ℤ) → Words rx → (places : List ℕ) → Words (negated_of rx places)
+negated_words : (rx : List ℤ) → InWordRange rx → (places : List ℕ) → InWordRange (negated_of rx places)
 unfolding negated_of
 negated_words rx h [] k = lit≤ tt
 negated_words rx h (v ∷ l) zero = omega (arith, h v, neg_size (get_or rx v (pos 0)))
 negated_words rx h (v ∷ l) (suc k) = negated_words rx h l k
 
-pub copy_words : (t : List ℕ) (rx : List ℤ) → Words rx → Words (copy_of t rx)
+pub copy_words : (t : List ℕ) (rx : List ℤ) → InWordRange rx → InWordRange (copy_of t rx)
 unfolding copy_of
 copy_words t rx h = negated_words rx h (raw_of t)
 
@@ -53,10 +54,6 @@ raw_main t (suc zero) l = refl
 raw_main t (suc (suc i)) l = absurd (omega arith)
 
 module _ (t : List ℕ) (right : right_table t ≡ true) where
-  raw_length : length (raw_of t) ≡ 12
-  unfolding raw_of
-  raw_length = omega (arith, length-append t (8 ∷ (9 ∷ [])), right_length t right)
-
   pub raw_voice : (i : ℕ) → 2 ≤ i → i < 10 → get_or (raw_of t) i 0 ≡ get_or t (i - 2) 0
   unfolding raw_of
   raw_voice i h l =
@@ -75,8 +72,12 @@ module _ (t : List ℕ) (right : right_table t ≡ true) where
       by (suc zero) l = refl
       by (suc (suc k)) l = absurd (omega arith)
 
+  raw_length : length (raw_of t) ≡ 12
+  unfolding raw_of
+  raw_length = omega (arith, length-append t (8 ∷ (9 ∷ [])), right_length t right)
+
 -- ---- by a right table
-module _ (t : List ℕ) (rx : List ℤ) (right : right_table t ≡ true) (long : length rx ≡ 12) where
+module _ (t : List ℕ) (rx : List ℤ) (right : right_table t ≡ true) where
   abbrev negated : ℕ → ℤ
   negated v = neg_ℤ (get_or rx v (pos 0))
 
@@ -95,45 +96,15 @@ module _ (t : List ℕ) (rx : List ℤ) (right : right_table t ≡ true) (long :
       let f = λ (v : ℕ). neg_ℤ (get_or rx v (pos 0)) in
       ap (take 8) (map-append f t (8 ∷ (9 ∷ []))) ∙ take_at (map f t) (map f (8 ∷ (9 ∷ []))) 8 (length-map t f ∙ right_length t right)
 
-  raw_voices_length : length (raw_voices rx) ≡ 8
-  raw_voices_length = length-take-le 8 rx (omega arith)
-
-  spelled : raw_voices rx ≡ map (λ v. get_or rx v (pos 0)) voices
-  spelled = fill_by_all (λ v. get_or rx v (pos 0)) (raw_voices rx) 8 (pos 0) raw_voices_length (λ v l. get_or-take 8 rx v (pos 0) l)
-
-  rearranged : IsPermutation (map neg_ℤ (raw_voices rx)) (copied_voices (copy_of t rx))
-  unfolding negated_of
-  rearranged = rw (spelled, voices_by) (IsPermutation-map (λ v. neg_ℤ (get_or rx v (pos 0))) voices t (right_rearranged t right))
-
   -- a voice that was negated where its slot has it is negated again where the opposite table has that slot
-  twice : (v : ℕ) → v < 8 → get_or (negated_of (negated_of rx t) (opposite_of t)) v (pos 0) ≡ get_or rx v (pos 0)
-  twice v l =
+  negated_twice : (again : List ℤ) → raw_voices again ≡ negated_of rx t → (v : ℕ) → v < 8 → get_or (negated_of again (opposite_of t)) v (pos 0) ≡ get_or rx v (pos 0)
+  negated_twice again e v l =
       let k = right_slot t right v l in
-      negated_at (negated_of rx t) (opposite_of t) v (omega (arith, opposite_length t right))
-      ∙ ap (λ (s : ℕ). neg_ℤ (get_or (negated_of rx t) s (pos 0))) (opposite_at t right v l)
-      ∙ ap neg_ℤ (negated_at rx t (position_or_len (names v) t) (omega (arith, k.0, right_length t right)) ∙ ap negated k.1)
+      let s = position_or_len (names v) t in
+      negated_at again (opposite_of t) v (omega (arith, opposite_length t right))
+      ∙ ap (λ (i : ℕ). neg_ℤ (get_or again i (pos 0))) (opposite_at t right v l)
+      ∙ ap neg_ℤ (sym (get_or-take 8 again s (pos 0) k.0) ∙ ap (λ (l : List ℤ). get_or l s (pos 0)) e ∙ negated_at rx t s (omega (arith, k.0, right_length t right)) ∙ ap negated k.1)
       ∙ neg_ℤ-neg_ℤ (get_or rx v (pos 0))
-
-  back : negated_of (copied_voices (copy_of t rx)) (opposite_of t) ≡ raw_voices rx
-  back =
-      let eight = negated_length (negated_of rx t) (opposite_of t) ∙ opposite_length t right in
-      rw voices_by
-      (ext_get_or (pos 0) (negated_of (negated_of rx t) (opposite_of t)) (raw_voices rx) (eight ∙ sym raw_voices_length)
-      (λ v l. let i : v < 8 = rw eight at l in twice v i ∙ sym (get_or-take 8 rx v (pos 0) i)))
-
-  pub copied : Words rx → Copied t rx (copy_of t rx)
-  copied h = record {
-    long = copy_length;
-    main = λ i l. copy_at i (omega arith) ∙ ap negated (raw_main t i l);
-    voice = λ s l. copy_at (2 + s) (omega arith) ∙ ap negated (raw_voice t right (2 + s) (omega arith) (omega arith) ∙ ap (λ (k : ℕ). get_or t k 0) (omega arith));
-    audio_in = λ i l. copy_at (10 + i) (omega arith) ∙ ap negated (raw_audio_in t right (10 + i) (omega arith) (omega arith) ∙ omega arith);
-    table = right_rearranged t right;
-    rearranged = rearranged;
-    opposite = λ v l. ap (λ (s : ℕ). get_or t s 0) (opposite_at t right v l) ∙ (right_slot t right v l).1;
-    opposite_right = opposite_is_right t right;
-    back = back;
-    within = copy_words t rx h;
-  }
 
   -- twelve turns, each of which puts the word of its place, make the copy
   pub turns_copy : (start : List ℤ) → length start ≡ 12 → each_of 12 (λ i x. neg_ℤ (get_or rx (get_or (raw_of t) i 0) (pos 0))) (pos 0) start ≡ copy_of t rx
@@ -142,3 +113,37 @@ module _ (t : List ℕ) (rx : List ℤ) (right : right_table t ≡ true) (long :
       let size = each_length put (pos 0) start 12 ∙ twelve in
       ext_get_or (pos 0) (each_of 12 put (pos 0) start) (copy_of t rx) (size ∙ sym copy_length)
       (λ i l. let k : i < 12 = rw size at l in each_at put (pos 0) start 12 i k (omega arith) ∙ sym (copy_at i k))
+
+-- ---- what it keeps
+module _ (t : List ℕ) (rx : List ℤ) (right : right_table t ≡ true) (long : length rx ≡ 12) where
+  raw_voices_length : length (raw_voices rx) ≡ 8
+  raw_voices_length = length-take-le 8 rx (omega arith)
+
+  raw_voices_at : raw_voices rx ≡ map (λ v. get_or rx v (pos 0)) voices
+  raw_voices_at = fill_by_all (λ v. get_or rx v (pos 0)) (raw_voices rx) 8 (pos 0) raw_voices_length (λ v l. get_or-take 8 rx v (pos 0) l)
+
+  voices_rearranged : IsPermutation (map neg_ℤ (raw_voices rx)) (copied_voices (copy_of t rx))
+  unfolding negated_of
+  voices_rearranged = rw (raw_voices_at, voices_by t rx right) (IsPermutation-map (λ v. neg_ℤ (get_or rx v (pos 0))) voices t (right_rearranged t right))
+
+  voices_back : (again : List ℤ) → raw_voices again ≡ copied_voices (copy_of t rx) → copied_voices (copy_of (opposite_of t) again) ≡ raw_voices rx
+  voices_back again e =
+      let eight = negated_length again (opposite_of t) ∙ opposite_length t right in
+      voices_by (opposite_of t) again (opposite_is_right t right)
+      ∙ ext_get_or (pos 0) (negated_of again (opposite_of t)) (raw_voices rx) (eight ∙ sym raw_voices_length)
+      (λ v l. let i : v < 8 = rw eight at l in negated_twice t rx right again (e ∙ voices_by t rx right) v i ∙ sym (get_or-take 8 rx v (pos 0) i))
+
+  pub copied : InWordRange rx → Copied t rx (copy_of t rx)
+  copied h =
+      let at = copy_at t rx right in
+      let put = λ (v : ℕ). neg_ℤ (get_or rx v (pos 0)) in
+      record {
+        table = is_right_table t right;
+        long = copy_length t rx right;
+        main = λ i l. at i (omega arith) ∙ ap put (raw_main t i l);
+        voice = λ s l. at (2 + s) (omega arith) ∙ ap put (raw_voice t right (2 + s) (omega arith) (omega arith) ∙ ap (λ (k : ℕ). get_or t k 0) (omega arith));
+        audio_in = λ i l. at (10 + i) (omega arith) ∙ ap put (raw_audio_in t right (10 + i) (omega arith) (omega arith) ∙ omega arith);
+        rearranged = voices_rearranged;
+        back = voices_back;
+        within = copy_words t rx h;
+      }

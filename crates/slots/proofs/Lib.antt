@@ -1,3 +1,4 @@
 -- Laws of `slots`.
+pub mod Below
 pub mod Tables
 pub mod Copy

@@ -1,4 +1,4 @@
--- A slot table, and the copy of the receive words by it: "the audio interrupt copies them .. (MAIN, the voices by slot .., AUDIO IN), negating every word". Definitions only.
+-- A slot table, and the copy of the receive words by it: "The audio interrupt copies them .. (MAIN, the voices by slot .., AUDIO IN), negating every word" (analog.rs, lines 612 to 618). Definitions only.
 use Rattle.std.specs.Prelude.{ℕ, ◌+◌, Bool, ◌&&◌, List, [], ◌∷◌, ◌++◌, map, length, get_or, count_by, eqb, ℤ, pos, neg_ℤ}
 use Rattle.std.specs.List.{list_all, position_or_len, range_with_len}
 use Rattle.board.specs.Board.{RX_AUDIO_IN, RX_MAIN}

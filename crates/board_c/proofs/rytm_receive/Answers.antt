@@ -9,8 +9,7 @@ unfolding numbered_received
 returns c =
     let h = rw c.inputs-x.ensures at c.receive-refusal.ensures in
     record {
-      answer = c.receive-refusal.result;
-      is = rw (← c.number.ensures) refl;
-      receives = h;
-      call = receive_answers _ _ _ _ _ _ _ _ _ (λ i. (c.type_inv.frame i).fits) h;
+      is = rw (← h.is, ← c.number.ensures) refl;
+      receives = rw (← h.is) h;
+      call = rw (← h.is) (receive_answers _ _ _ _ _ _ _ _ _ (λ i. (c.type_inv.frame i).fits) h);
     }

@@ -1,13 +1,13 @@
--- `receive::receive` meets its contract: a call that is not refused is a step whose words are copied, and a refused one leaves all. Assumes nothing.
+-- `receive::receive` meets its contract: a call that is not refused is a step whose words are copied, and a refused one leaves destination and board. Assumes nothing.
 use mathlib.Core.Path.{refl}
 use borrow.Author.Rules.{rules}
 use Rattle.receive.specs.Receive.{received_if, written_if}
-use Rattle.receive.proofs.Told.{taken, left}
+use Rattle.receive.proofs.Told.{accepted_receives, refused_receives}
 use Rattle.receive.proofs.receive.Goals as goal
 
 pub returns-in-Ok : goal.returns-in-Ok
-returns-in-Ok c = taken _ _ _ _ _ _ _ c.stepped.result _ (search rules) (search rules) (search rules) (search rules)
+returns-in-Ok c = accepted_receives _ _ _ _ _ _ _ c.stepped.result _ (search rules) (search rules) (search rules) (search rules)
 
 pub returns-in-Err : goal.returns-in-Err
 unfolding received_if written_if
-returns-in-Err c = left _ _ _ _ _ _ _ c.in-Err.refusal _ _ (search rules) c.refused.ensures refl
+returns-in-Err c = refused_receives _ _ _ _ _ _ _ c.in-Err.refusal _ _ (search rules) c.refused.ensures refl

@@ -7,4 +7,4 @@ use Rattle.slots.specs.Slots.{raw_of}
 use Rattle.slots.proofs.SlotTable.copy.Given as goal
 
 abbrev pub invariant-loop-i : goal.invariant-loop-i
-invariant-loop-i l = l.copy ≡ each_of l.i (λ i x. neg_ℤ (get_or l.rx (get_or (raw_of l.self) i 0) (pos 0))) (pos 0) l.initial.copy
+invariant-loop-i l = l.copy ≡ each_of l.i (λ i x. neg_ℤ (get_or l.rx (get_or (raw_of l.slots) i 0) (pos 0))) (pos 0) l.initial.copy

@@ -1,12 +1,13 @@
--- `slots::is_right` meets its contract: eight slots are a right table where each voice is one of them. Assumes nothing.
+-- `slots::right_table` meets its contract: eight slots are a right table where each voice is one of them. Assumes nothing.
 use mathlib.Core.Path.{refl, ◌∙◌}
 use borrow.Author.Rules.{rules}
 use borrow.Author.Tests.{tests}
 use Rattle.std.specs.List.{list_any}
 use Rattle.std.proofs.lemmas.Iterator.{YieldsList-from_range}
 use Rattle.std.proofs.lemmas.Iterator.Search.{all_from_yields_List}
-use Rattle.slots.proofs.Tables.{names, right_by_names}
-use Rattle.slots.proofs.is_right.Goals as goal
+use Rattle.slots.proofs.Below.{names}
+use Rattle.slots.proofs.Tables.{right_by_names}
+use Rattle.slots.proofs.right_table.Goals as goal
 
 pub returns : goal.returns
 returns c =

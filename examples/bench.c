@@ -85,7 +85,7 @@ int main(void) {
             hit(n == 0);
         for (int i = 8; i < 11; i++)
             dac[i] = n < BURST ? 4000000 : 0;
-        if (n == COPIED) {
+        if (n == COPIED) { /* its board is let go; the first goes on by the step below */
             Received r = rytm_receive(board, frame, sizeof frame, dac, 16, fx, sizeof fx, 0.25f, -0.25f, 0.0f, 0.0f, slots, sizeof slots, copy, 12);
             if (r.number != 0) {
                 printf("the copy is refused by %u\n", (unsigned)r.number);

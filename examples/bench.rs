@@ -84,7 +84,7 @@ fn main() {
         }
         dac[8..11].fill(if n < BURST { 4_000_000 } else { 0 });
         if n == COPIED {
-            // On another board; the first goes on by the step below.
+            // Its board is let go; the first goes on by the step below.
             let mut other = board;
             let copied = other.receive(&frame.0, &dac, &fx, [0.25, -0.25], [0.0, 0.0], &SLOTS, &mut copy);
             if copied.number != 0 {

@@ -204,7 +204,7 @@ pub struct Step {
 
 /// What one step gives besides its copied words and the next board.
 #[derive(Clone, Copy, Debug)]
-pub struct Copied {
+pub struct ReceivedStep {
     /// 0, or the number of the refusal.
     pub number: u32,
     pub mix: Mix,
@@ -245,12 +245,12 @@ impl Board {
     /// One sample whose words go to `dest` as the firmware's audio interrupt copies them, every one negated: main left and
     /// right, the voices that the eight slots name, audio in left and right. A refusal leaves board and `dest` as they were.
     #[allow(clippy::too_many_arguments)]
-    pub fn receive(&mut self, frame: &[u8], dac: &[i32], fx: &[u8], audio: [f32; 2], ext: [f32; 2], slots: &[u8], dest: &mut [i32]) -> Copied {
+    pub fn receive(&mut self, frame: &[u8], dac: &[i32], fx: &[u8], audio: [f32; 2], ext: [f32; 2], slots: &[u8], dest: &mut [i32]) -> ReceivedStep {
         let (f, d, p, s, to) = (frame.as_ptr(), dac.as_ptr(), fx.as_ptr(), slots.as_ptr(), dest.as_mut_ptr());
         let (fl, dl, pl, sl, tl) = (frame.len(), dac.len(), fx.len(), slots.len(), dest.len());
         // Each pointer goes with its slice's length; what is written is `dest` alone, which nothing else lent overlaps.
         let answer = unsafe { rytm_receive(self.state, f, fl, d, dl, p, pl, audio[0], audio[1], ext[0], ext[1], s, sl, to, tl) };
         self.state = answer.board;
-        Copied { number: answer.number, mix: answer.mix }
+        ReceivedStep { number: answer.number, mix: answer.mix }
     }
 }

@@ -172,7 +172,8 @@ impl Report {
         };
         if self.differs(&ours, &theirs, tell) {
             twin.port = Board::of(theirs.board);
-        } else if written {
+        }
+        if written {
             if self.differ == 0 {
                 println!("step {at} wrote lent memory, or not the words of the copy: {place}");
                 case.print();

@@ -108,8 +108,8 @@ const FILTERS: [&str; 8] = ["0 LP2", "1 BP", "2 HP1", "3 PK", "4 HP2", "5 BS", "
 
 pub struct Met {
     count: [u64; NAMES.len()],
-    /// By number; those of a step are 0 to 5.
-    answers: [u64; 11],
+    /// By number, those of a step.
+    answers: [u64; 6],
     sources: Coverage,
     filter: [[u64; 8]; 8],
     routed_off: [u64; 8],
@@ -118,7 +118,7 @@ pub struct Met {
 
 impl Met {
     pub fn new() -> Met {
-        Met { count: [0; NAMES.len()], answers: [0; 11], sources: Coverage::new(), filter: [[0; 8]; 8], routed_off: [0; 8], groups: [[0; 10]; 5] }
+        Met { count: [0; NAMES.len()], answers: [0; 6], sources: Coverage::new(), filter: [[0; 8]; 8], routed_off: [0; 8], groups: [[0; 10]; 5] }
     }
 
     pub fn add(&mut self, c: Count, met: bool) {
@@ -144,7 +144,9 @@ impl Met {
 
     /// One step: the board before it, what it was given, and the Rust's answer.
     pub fn note(&mut self, before: &Analog, case: &Case, answer: &Answer) {
-        self.answers[answer.number as usize] += 1;
+        if let Some(n) = self.answers.get_mut(answer.number as usize) {
+            *n += 1;
+        }
         self.given(case, answer.number);
         if answer.number != 0 {
             return;

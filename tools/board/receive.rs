@@ -6,11 +6,11 @@ use crate::rytm::{Analog, Answer, Board, Mix};
 use crate::sides::{self, Case};
 
 /// A destination has at most so many words; as many around it have to stay as they are.
-pub const ROOM: usize = 24;
+const ROOM: usize = 24;
 
 /// Slot tables by what is wrong with them.
 #[derive(Clone, Copy)]
-pub enum Kind {
+enum Kind {
     Right,
     Short,
     Long,
@@ -30,14 +30,14 @@ const KINDS: [(Kind, &str); 5] = [
 #[derive(Clone)]
 pub struct Lent {
     kind: Kind,
-    pub slots: Vec<u8>,
+    slots: Vec<u8>,
     room: usize,
     /// The destination and what lies around it: any words.
     memory: [i32; 3 * ROOM],
 }
 
 impl Lent {
-    /// One call in three with a wrong table, one in four with another length than twelve.
+    /// One call in three with a wrong table, one in four with a destination of any length.
     pub fn new(rng: &mut Rng) -> Lent {
         let kind = if rng.one_in(3) { KINDS[1 + rng.below(4) as usize].0 } else { Kind::Right };
         let room = if rng.one_in(4) { rng.below(ROOM as u32 + 1) as usize } else { 12 };
@@ -57,14 +57,6 @@ impl Lent {
             0 if self.room != 12 => 10,
             number => number,
         }
-    }
-
-    /// Whether the voices of the copy, copied by the opposite table, are those of the raw words.
-    fn gives_back(&mut self, raw: &[i32; 12]) -> bool {
-        let slots = self.slots.clone();
-        let opposite: Vec<usize> = (0..8).map(|v| slots.iter().position(|&s| s == v).unwrap()).collect();
-        let voices = &self.dest()[2..10];
-        opposite.iter().map(|&s| -voices[s]).eq(raw[..8].iter().copied())
     }
 
     pub fn print(&self) {
@@ -109,32 +101,39 @@ pub struct Met {
     kinds: [[u64; 2]; 5],
     /// By the destination's length, of calls with nothing else wrong.
     rooms: [u64; ROOM + 1],
-    numbers: [u64; 11],
+    /// Refused by 9 and by 10.
+    refused: [u64; 2],
 }
 
 impl Met {
     pub fn new() -> Met {
-        Met { kinds: [[0; 2]; 5], rooms: [0; ROOM + 1], numbers: [0; 11] }
+        Met { kinds: [[0; 2]; 5], rooms: [0; ROOM + 1], refused: [0; 2] }
     }
 
     fn note(&mut self, lent: &Lent, case: &Case, number: u32) {
         self.kinds[lent.kind as usize][0] += (case.number() == 0) as u64;
         self.kinds[lent.kind as usize][1] += 1;
         self.rooms[lent.room] += matches!(number, 0 | 10) as u64;
-        self.numbers[number as usize] += 1;
+        if number > 8 {
+            self.refused[number as usize - 9] += 1;
+        }
     }
 
     pub fn print(&self) {
-        for (n, count) in self.numbers.iter().enumerate() {
-            if !(6..=8).contains(&n) {
-                println!("{:50}{count:>12}", format!("copy: answer {n}"));
-            }
+        for (name, count) in ["answer 9, slot table", "answer 10, destination count"].iter().zip(&self.refused) {
+            println!("{name:50}{count:>12}");
         }
         for ((_, name), [good, all]) in KINDS.iter().zip(&self.kinds) {
-            println!("{:50}{all:>12}, with a good step {good}", format!("copy: slot tables {name}"));
+            println!("{:50}{all:>12}, with a good step {good}", format!("slot tables {name}"));
         }
         let rooms: Vec<String> = self.rooms.iter().enumerate().map(|(room, n)| format!("{room}: {n}")).collect();
-        println!("copy: destinations by length, nothing else wrong: {}", rooms.join(", "));
+        println!("destinations by length, nothing else wrong: {}", rooms.join(", "));
+        let mut never: Vec<String> = KINDS.iter().zip(&self.kinds).filter(|(_, n)| n[0] == 0).map(|((_, name), _)| format!("slot tables {name}")).collect();
+        never.extend((0..=ROOM).filter(|&room| self.rooms[room] == 0).map(|room| format!("a destination of {room} words")));
+        never.extend([9, 10].iter().filter(|&&n| self.refused[n - 9] == 0).map(|n| format!("answer {n}")));
+        if !never.is_empty() {
+            println!("never met: {}", never.join("; "));
+        }
     }
 }
 
@@ -152,16 +151,14 @@ pub fn call(port: &mut Board, rust: &mut rust::Analog, case: &Case, lent: &Lent,
     let port = Answer { number: answer.number, rx: [0; 12], mix: answer.mix, board: *port.state() };
     let number = lent.number(case);
     met.note(lent, case, number);
-    let mut same = lent.slots == ours.slots;
     let mut raw = [0; 12];
     let rust = if number == 0 {
         let step = sides::rust_step(rust, case);
         raw = step.rx;
         theirs.dest().copy_from_slice(&copied(&step.rx, &lent.slots));
-        same &= answer.number != 0 || ours.gives_back(&step.rx);
         Answer { rx: [0; 12], ..step }
     } else {
         Answer { number, rx: [0; 12], mix: Mix { l: 0.0, r: 0.0 }, board: Analog::of(rust) }
     };
-    Sides { port, rust, same: same && ours.memory == theirs.memory, raw }
+    Sides { port, rust, same: ours.memory == theirs.memory && ours.slots == lent.slots, raw }
 }

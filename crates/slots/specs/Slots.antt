@@ -23,5 +23,6 @@ raw_of t = RX_MAIN ∷ ((RX_MAIN + 1) ∷ (t ++ (RX_AUDIO_IN ∷ ((RX_AUDIO_IN +
 unfoldable pub negated_of : List ℤ → List ℕ → List ℤ
 negated_of words places = map (λ i. neg_ℤ (get_or words i (pos 0))) places
 
+-- the copy of the raw words by a slot table
 unfoldable pub copy_of : List ℕ → List ℤ → List ℤ
 copy_of t rx = negated_of rx (raw_of t)

@@ -67,7 +67,8 @@ static void hit(bool commands) {
         word(26 + 2 * v, 16384);
         word(58 + 2 * v, 0x2000);
         word(74 + 2 * v, 0x2000);
-        record(168 + 8 * v, first, 0, 127, commands ? 0xB : 3, 0);
+        for (int side = 168; side <= 232; side += 64)
+            record(side + 8 * v, first, 0, 127, commands ? 0xB : 3, 0);
     }
 }
 

@@ -64,7 +64,9 @@ impl Frame {
             f.word(26 + 2 * v, 16384);
             f.word(58 + 2 * v, 0x2000);
             f.word(74 + 2 * v, 0x2000);
-            f.record(168 + 8 * v, first, 0, 127, if commands { 0xB } else { 3 }, 0);
+            for side in [168, 232] {
+                f.record(side + 8 * v, first, 0, 127, if commands { 0xB } else { 3 }, 0);
+            }
         }
         f
     }

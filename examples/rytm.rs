@@ -96,11 +96,14 @@ pub struct SegEnv {
 #[repr(C)]
 #[derive(Clone, Copy, Debug)]
 pub struct Chain {
+    /// The left side's amp.
     pub amp: SegEnv,
     pub flt: SegEnv,
     pub low: f32,
     pub band: f32,
     pub lp1: f32,
+    /// The right side's amp.
+    pub amp_r: SegEnv,
 }
 
 /// The compressor's sidechain filters.

@@ -56,8 +56,8 @@ typedef struct { uint8_t start, target; uint32_t rate; } Key;
 /* A chain's envelope. */
 typedef struct { Key key; float level; bool hold, cmd; } SegEnv;
 
-/* A voice's overdrive, filter and amp. */
-typedef struct { SegEnv amp, flt; float low, band, lp1; } Chain;
+/* A voice's overdrive, filter and amp: amp the left side's, amp_r the right one's. */
+typedef struct { SegEnv amp, flt; float low, band, lp1; SegEnv amp_r; } Chain;
 
 /* The compressor's sidechain filters, and the compressor. */
 typedef struct { float lo, hi; } Sc;

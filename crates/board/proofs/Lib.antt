@@ -1,3 +1,4 @@
 -- Laws of `board`.
 pub mod Range
 pub mod Numbers
+pub mod BeforeR5

@@ -1,18 +1,18 @@
 -- What the voices of a step do to each chain: its own sample, from some input; and every receive word stays within ±8,388,607. Assumes nothing.
-use Prim.Native.Nat.{ℕ, zero, suc, ◌<◌}
+use Prim.Native.Nat.{ℕ, zero, suc, ◌≤◌, ◌<◌}
 use native.Mathlib.Omega.{arith}
 use mathlib.Core.Path.{◌≡◌, refl}
-use mathlib.Core.List.{List, [], ◌∷◌}
+use mathlib.Core.List.{List}
 use lib.ListN.{get_or, set, length, replicate}
 use lib.Dec.{lit≤}
-use lib.IntN.{ℤ, pos}
+use lib.IntN.{ℤ, pos, nat_abs}
 use lib.Ieee.{Float, binary32}
 use lib.Ieee.Fits.{mul-fits}
 use Rattle.float.specs.Consts.{k0p5}
 use Rattle.float.specs.Ops.{◌⊗◌}
 use Rattle.float.specs.Floats.{to24_of}
 use Rattle.float.proofs.Laws.{word_in}
-use Rattle.lists.proofs.Sweep.{turns_keep, Turn, turns_length, turns_at}
+use Rattle.lists.proofs.Sweep.{turns_keep, set_keeps_read, Turn, turns_length, turns_at}
 use Rattle.chain.specs.declared.Chain.{Chain}
 use Rattle.chain.specs.Chain.{no_chain, process_of}
 use Rattle.bus.specs.declared.Bus.{Bus}
@@ -39,11 +39,7 @@ module _ (f : List ℕ) (dac : List ℤ) (src : List Float) (chains : List Chain
 -- ---- the words
 -- a half sample put in as a word
 pub words_set : (l : List ℤ) (i : ℕ) (x : Float) → InWordRange l → InWordRange (set l i (to24_of (x ⊗ k0p5)))
-words_set [] i x a k = a k
-words_set (y ∷ l) zero x a zero = word_in (x ⊗ k0p5) (mul-fits binary32 x k0p5)
-words_set (y ∷ l) zero x a (suc k) = a (suc k)
-words_set (y ∷ l) (suc i) x a zero = a 0
-words_set (y ∷ l) (suc i) x a (suc k) = words_set l i x (λ j. a (suc j)) k
+words_set l i x a = set_keeps_read (λ (w : ℤ). nat_abs w ≤ 8388607) (pos 0) l i (to24_of (x ⊗ k0p5)) a (word_in (x ⊗ k0p5) (mul-fits binary32 x k0p5))
 
 pub words_zero : (n : ℕ) → InWordRange (replicate n (pos 0))
 words_zero zero k = lit≤ tt

@@ -1,2 +1,3 @@
 -- Laws of `bus`.
 pub mod Kept
+pub mod BeforeR5

@@ -38,14 +38,14 @@ unfoldable pub contribution_of : List ℕ → ℕ → ℕ → Float → Float
 contribution_of f vca v y = y ⊗ word_f f (vca + 2 * v) ⊘ k32767
 
 -- the mix with voice v: "a set bit keeps the voice from the mix only"
-unfoldable pub added_of : List ℕ → ℕ → Mix → Float → Mix
-added_of f v m y = cond (routed_off f v) m (record { l = m.l ⊕ contribution_of f VCA_L v y; r = m.r ⊕ contribution_of f VCA_R v y })
+unfoldable pub added_of : List ℕ → ℕ → Mix → Mix → Mix
+added_of f v m y = cond (routed_off f v) m (record { l = m.l ⊕ contribution_of f VCA_L v y.l; r = m.r ⊕ contribution_of f VCA_R v y.r })
 
--- voice v: its chain's output y × 0.5 becomes receive word v
+-- voice v: its chain's output y × 0.5, the left one, becomes receive word v
 unfoldable pub turn_of : List ℕ → List ℤ → List Float → ℕ → Bus → Bus
 turn_of f dac src v b =
     let o = process_of f v (input_of dac src v) (get_or b.chains v no_chain) in
-    record { chains = set b.chains v o.chain; rx = set b.rx v (to24_of (o.y ⊗ k0p5)); mix = added_of f v b.mix o.y }
+    record { chains = set b.chains v o.chain; rx = set b.rx v (to24_of (o.y.l ⊗ k0p5)); mix = added_of f v b.mix o.y }
 
 -- chains 0 to 7
 unfoldable pub voices_of : List ℕ → List ℤ → List Float → List Chain → Bus

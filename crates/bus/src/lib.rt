@@ -41,9 +41,9 @@ fn contribution(f: &Frame, vca: usize, v: usize, y: f32) -> f32
     y * frame::word_f32(f.as_slice(), vca + 2 * v) / 32767.0
 }
 
-// The mix with voice v's sample, unless it is routed off.
+// The mix with voice v's sample, left and right, unless it is routed off.
 #[tactic(auto, unfolding(crate::specs::Bus::added_of))]
-fn added(f: &Frame, v: usize, m: Mix, y: f32) -> Mix
+fn added(f: &Frame, v: usize, m: Mix, y: Mix) -> Mix
     requires { v < 8 }
     ensures { result ≡ added_of f.now v m y }
 {
@@ -51,8 +51,8 @@ fn added(f: &Frame, v: usize, m: Mix, y: f32) -> Mix
         return m;
     }
     Mix {
-        l: m.l + contribution(f, frame::VCA_L, v, y),
-        r: m.r + contribution(f, frame::VCA_R, v, y),
+        l: m.l + contribution(f, frame::VCA_L, v, y.l),
+        r: m.r + contribution(f, frame::VCA_R, v, y.r),
     }
 }
 
@@ -75,7 +75,7 @@ pub fn voices(mut chains: [Chain; 8], f: &Frame, dac: &DacWords, src: [f32; 8]) 
         let x = src[v] + dac_f32(dac, v) * 0.5;
         let o = chains[v].process(f, v, x);
         chains[v] = o.chain;
-        rx[v] = float::to24(o.y * 0.5);
+        rx[v] = float::to24(o.y.l * 0.5);
         mix = added(f, v, mix, o.y);
     }
     Bus { chains, rx, mix }

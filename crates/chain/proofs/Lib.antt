@@ -1,2 +1,4 @@
 -- Laws of `chain`.
+pub mod Sides
 pub mod Kept
+pub mod BeforeR5

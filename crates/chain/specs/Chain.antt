@@ -1,12 +1,12 @@
 -- A voice's chain, from analog.rs. Definitions only.
-use Rattle.std.specs.Prelude.{ℕ, ◌+◌, ◌*◌, true, false, cond, List, Float}
+use Rattle.std.specs.Prelude.{ℕ, ◌≡◌, ◌+◌, ◌*◌, true, false, cond, List, Float}
 use Rattle.std.specs.Float.{nan}
 use Rattle.std.specs.Float.Ieee.{neg, lt, le}
 use Rattle.std.specs.Float.Ieee.Scale.{finite}
 use Rattle.float.specs.Consts.{k0, k1, k2, k8, k10, k12, k60, k64, k127, k256, k440, k512, k22000, k65536, k0p3, k0p45, k0p97, k1p01, FS, TAU, PI, LEVELS_PER_6DB}
 use Rattle.float.specs.Ops.{◌⊕◌, ◌⊖◌, ◌⊗◌, ◌⊘◌}
 use Rattle.float.specs.Floats.{min_of, max_of, clamp_of}
-use Rattle.frame.specs.Offsets.{OVR, FRQ, RES, AMP_ENV, FLT_ENV}
+use Rattle.frame.specs.Offsets.{OVR, FRQ, RES, AMP_ENV, AMP_ENV_R, FLT_ENV}
 use Rattle.frame.specs.Frame.{word_f, signed_f, bytes_at, flt_code, flt_type_of}
 use Rattle.frame.specs.declared.FltType.{FltType}
 use Rattle.frame.specs.declared.FltType.TheVariants.{Lp2, Lp1, Bp, Hp1, Hp2, Bs, Pk}
@@ -27,13 +27,13 @@ abbrev pub no_seg : SegEnv
 no_seg = record { key = record { start = 0; target = 0; rate = 0 }; level = nan; hold = false; cmd = false }
 
 abbrev pub no_chain : Chain
-no_chain = record { amp = no_seg; flt = no_seg; low = nan; band = nan; lp1 = nan }
+no_chain = record { amp = no_seg; flt = no_seg; low = nan; band = nan; lp1 = nan; amp_r = no_seg }
 
 -- `Chain::default`
 unfoldable pub chain_new : Chain
 chain_new =
     let e : SegEnv = record { key = record { start = 0; target = 0; rate = 0 }; level = k0; hold = false; cmd = false } in
-    record { amp = e; flt = e; low = k0; band = k0; lp1 = k0 }
+    record { amp = e; flt = e; low = k0; band = k0; lp1 = k0; amp_r = e }
 
 -- voice v's words and records; the filter record's first word is the envelope's depth
 unfoldable pub settings_of : List ℕ → ℕ → Settings
@@ -44,6 +44,7 @@ settings_of f v = record {
   res = word_f f (RES + 2 * v);
   kind = flt_type_of (flt_code f v);
   ra = bytes_at f (AMP_ENV + 8 * v);
+  rr = bytes_at f (AMP_ENV_R + 8 * v);
   rf = bytes_at f (FLT_ENV + 8 * v);
 }
 
@@ -98,25 +99,38 @@ pick_of Pk s lp1 x k res = x ⊕ s.bp ⊗ k ⊗ k2 ⊗ res
 unfoldable pub finite_or : Multimode → Float → Float → Filtered
 finite_or s lp1 y = cond (finite y) (record { low = s.low; band = s.band; lp1 = lp1; y = y }) (record { low = k0; band = k0; lp1 = lp1; y = k0 })
 
--- the overdriven sample through the filter of the voice's type
-unfoldable pub filter_of : Chain → Settings → Float → Float → Filtered
-filter_of c i fc x =
-    let res = res_of i.res in
+-- the overdriven sample through the filter of the voice's type, with its resonance word and its cutoff, from the filter's three states
+unfoldable pub filter_of : Float → Float → Float → FltType → Float → Float → Float → Filtered
+filter_of low band lp1 kind word fc x =
+    let res = res_of word in
     let q = coefs_of fc res in
-    let s = multimode_of c.low c.band x q in
-    let lp1 = lp1_of c.lp1 x fc in
-    finite_or s lp1 (pick_of i.kind s lp1 x q.k res)
+    let s = multimode_of low band x q in
+    let p = lp1_of lp1 x fc in
+    finite_or s p (pick_of kind s p x q.k res)
 
 -- "the chain gain 0 at or below 0", else 2 ^ ((level - 127) / 16)
 unfoldable pub gain_of : Float → Float
 gain_of level = cond (le level k0) k0 (exp2_of ((level ⊖ k127) ⊘ LEVELS_PER_6DB))
 
--- `Chain::process`
+-- `Chain::process`, and with it the right side: "the left mix and the receive word use the left level, the right mix the right one"
 unfoldable pub process_of : List ℕ → ℕ → Float → Chain → ChainOut
 process_of f v x c =
     let i = settings_of f v in
     let flt = seg_of false i.rf c.flt in
     let amp = seg_of true i.ra c.amp in
     let fc = cutoff_of i.frq i.depth flt.level in
-    let s = filter_of c i fc (drive_of i.ovr x) in
-    record { chain = record { amp = amp; flt = flt; low = s.low; band = s.band; lp1 = s.lp1 }; y = s.y ⊗ gain_of amp.level }
+    let s = filter_of c.low c.band c.lp1 i.kind i.res fc (drive_of i.ovr x) in
+    let amp_r = seg_of true i.rr c.amp_r in
+    record {
+      chain = record { amp = amp; flt = flt; low = s.low; band = s.band; lp1 = s.lp1; amp_r = amp_r };
+      y = record { l = s.y ⊗ gain_of amp.level; r = s.y ⊗ gain_of amp_r.level };
+    }
+
+-- each envelope of a chain sees its own record, the right amp "with the same rule as the left"; and one filtered sample goes to each side by that side's level
+pub record ByItsSide (f : List ℕ) (v : ℕ) (old : Chain) (o : ChainOut) : Type 0 where
+  pub amp : o.chain.amp ≡ seg_of true (bytes_at f (AMP_ENV + 8 * v)) old.amp
+  pub amp_r : o.chain.amp_r ≡ seg_of true (bytes_at f (AMP_ENV_R + 8 * v)) old.amp_r
+  pub flt : o.chain.flt ≡ seg_of false (bytes_at f (FLT_ENV + 8 * v)) old.flt
+  pub filtered : Float
+  pub left : o.y.l ≡ filtered ⊗ gain_of o.chain.amp.level
+  pub right : o.y.r ≡ filtered ⊗ gain_of o.chain.amp_r.level

@@ -2,28 +2,32 @@
 #![tactic(auto)]
 
 ghost use Rattle.std.specs.Prelude.{◌≡◌, ◌<◌};
-ghost use Rattle.chain.specs.Chain.{chain_new, drive_of, cutoff_of, res_of, coefs_of, multimode_of, lp1_of, pick_of, finite_or, settings_of, filter_of, process_of};
+ghost use Rattle.chain.specs.Chain.{ByItsSide, chain_new, drive_of, cutoff_of, res_of, coefs_of, multimode_of, lp1_of, pick_of, finite_or, settings_of, filter_of, process_of};
 
 use envelope::SegEnv;
 use frame::{FltType, Frame};
+use stereo::Mix;
 
 #[repr(C)]
 #[derive(Clone, Copy)]
 pub struct Chain {
+    // The left side's amp, and the filter.
     pub amp: SegEnv,
     pub flt: SegEnv,
     // The state-variable filter's integrators, and the one-pole.
     pub low: f32,
     pub band: f32,
     pub lp1: f32,
+    // The right side's amp.
+    pub amp_r: SegEnv,
 }
 
-// A chain after its sample, and the sample. Each state has such a struct of its own, whose fields say what they are; a generic one would
+// A chain after its sample, and the sample, left and right. Each state has such a struct of its own, whose fields say what they are; a generic one would
 // name them first and second.
 #[derive(Clone, Copy)]
 pub struct ChainOut {
     pub chain: Chain,
-    pub y: f32,
+    pub y: Mix,
 }
 
 // What the frame says to a chain.
@@ -34,8 +38,9 @@ pub struct Settings {
     pub depth: f32,
     pub res: f32,
     pub kind: FltType,
-    // The records of the amp and of the filter.
+    // The records of the amp, left and right, and of the filter.
     pub ra: [u8; 8],
+    pub rr: [u8; 8],
     pub rf: [u8; 8],
 }
 
@@ -53,6 +58,7 @@ impl Settings {
             res: frame::word_f32(bytes, frame::RES + 2 * v),
             kind: FltType::from(frame::flt_code(f, v)),
             ra: frame::bytes(bytes, frame::AMP_ENV + 8 * v),
+            rr: frame::bytes(bytes, frame::AMP_ENV_R + 8 * v),
             rf: frame::bytes(bytes, frame::FLT_ENV + 8 * v),
         }
     }
@@ -187,7 +193,7 @@ fn replace(s: Multimode, lp1: f32, y: f32) -> Filtered
 // The filter of a chain with cutoff fc, on the driven sample x.
 #[tactic(auto, unfolding(crate::specs::Chain::filter_of, crate::specs::Chain::lp1_of))]
 fn run_filter(c: Chain, i: Settings, fc: f32, x: f32) -> Filtered
-    ensures { result ≡ filter_of c i fc x }
+    ensures { result ≡ filter_of c.low c.band c.lp1 i.kind i.res fc x }
 {
     let res = resonance(i.res);
     let q = coefficients(fc, res);
@@ -217,6 +223,7 @@ impl Chain {
             low: 0.0,
             band: 0.0,
             lp1: 0.0,
+            amp_r: e,
         }
     }
 
@@ -224,13 +231,15 @@ impl Chain {
     #[tactic(auto, unfolding(crate::specs::Chain::process_of, crate::specs::Chain::gain_of))]
     pub fn process(self, f: &Frame, v: usize, x: f32) -> ChainOut
         requires { v < 8 }
-        ensures { result ≡ process_of f.now v x self }
+        ensures value { result ≡ process_of f.now v x self }
+        ensures sides { ByItsSide f.now v self result }
     {
         let i = Settings::read(f, v);
         let flt = self.flt.filter(i.rf);
         let amp = self.amp.amp(i.ra);
         let fc = cutoff(i.frq, i.depth, flt.level);
         let s = run_filter(self, i, fc, overdrive(i.ovr, x));
+        let amp_r = self.amp_r.amp(i.rr);
         ChainOut {
             chain: Chain {
                 amp,
@@ -238,8 +247,12 @@ impl Chain {
                 low: s.low,
                 band: s.band,
                 lp1: s.lp1,
+                amp_r,
             },
-            y: s.y * envelope::gain(amp.level, 0.0),
+            y: Mix {
+                l: s.y * envelope::gain(amp.level, 0.0),
+                r: s.y * envelope::gain(amp_r.level, 0.0),
+            },
         }
     }
 }

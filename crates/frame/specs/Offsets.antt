@@ -56,9 +56,12 @@ SWITCHES = 160
 abbrev pub ROUTE : ℕ
 ROUTE = 166
 
--- "Chain amp (168+8v)"
+-- "Chain amp (168+8v)": the left one's record, and the right one's, "the second amp record .. at 232+8v"
 abbrev pub AMP_ENV : ℕ
 AMP_ENV = 168
+
+abbrev pub AMP_ENV_R : ℕ
+AMP_ENV_R = 232
 
 -- "Chain filter (296+8v)"; the record's first word, signed, is the envelope's depth
 abbrev pub FLT_ENV : ℕ

@@ -43,8 +43,10 @@ pub const CYM_VCA: usize = 158;
 pub const SWITCHES: usize = 160;
 // The route mask.
 pub const ROUTE: usize = 166;
-// The voices' amp and filter records; a filter record's first word is the envelope's depth.
+// The voices' amp records, left and right, and their filter records; a filter record's first word is the envelope's depth.
 pub const AMP_ENV: usize = 168;
+
+pub const AMP_ENV_R: usize = 232;
 
 pub const FLT_ENV: usize = 296;
 // The hat's record, and the cymbal's eight.

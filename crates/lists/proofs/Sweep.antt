@@ -1,9 +1,9 @@
--- What holds at the start and is kept by each turn holds at the end; a sweep gives each element what its own rule gives; and so do turns that carry more than the list. Assumes nothing.
+-- What holds at the start and is kept by each turn holds at the end, of one run and of two beside each other; a sweep gives each element what its own rule gives; and so do turns that carry more than the list. Assumes nothing.
 use Prim.Native.Nat.{ℕ, zero, suc, ◌≤◌, ◌<◌}
 use native.Mathlib.Omega.{arith}
 use native.Mathlib.Decide.{dec_lt, ℕ_discrete}
 use mathlib.Core.Path.{◌≡◌, refl, sym, ◌∙◌, ap, subst}
-use mathlib.Core.List.{List}
+use mathlib.Core.List.{List, [], ◌∷◌}
 use lib.ListN.{get_or, set, length, length-set}
 use lib.Seq.{get_or-set_same, get_or-set_other}
 use Rattle.lists.specs.Turns.{turns_of, each_of}
@@ -12,6 +12,12 @@ pub turns_keep : {S : Type 0} (P : S → Type 0) (n : ℕ) (g : ℕ → S → S)
 unfolding turns_of
 turns_keep P zero g s h p = p
 turns_keep P (suc n) g s h p = h n (turns_of n g s) (omega arith) (turns_keep P n g s (λ k x l. h k x (omega arith)) p)
+
+-- two runs of turns, beside each other
+pub turns_match : {S U : Type 0} (R : S → U → Type 0) (n : ℕ) (g : ℕ → S → S) (h : ℕ → U → U) (s : S) (u : U) → ((k : ℕ) (x : S) (y : U) → k < n → R x y → R (g k x) (h k y)) → R s u → R (turns_of n g s) (turns_of n h u)
+unfolding turns_of
+turns_match R zero g h s u each r = r
+turns_match R (suc n) g h s u each r = each n (turns_of n g s) (turns_of n h u) (omega arith) (turns_match R n g h s u (λ k x y l. each k x y (omega arith)) r)
 
 module _ {A : Type 0} (g : ℕ → A → A) (z : A) (l : List A) where
   pub each_length : (n : ℕ) → length (each_of n g z l) ≡ length l
@@ -47,6 +53,14 @@ set_keeps P z l k x h p i b = by (ℕ_discrete k i)
     by : Dec (k ≡ i) → P (get_or (set l k x) i z)
     by (yes e) = subst P (sym (subst (λ (j : ℕ). get_or (set l k x) j z ≡ x) e (get_or-set_same l k x z (rw e b)))) p
     by (no n) = subst P (sym (get_or-set_other l k i x z (λ e. n (sym e)))) (h i b)
+
+-- and of what is read past the end
+pub set_keeps_read : {A : Type 0} (P : A → Type 0) (z : A) (l : List A) (k : ℕ) (x : A) → ((i : ℕ) → P (get_or l i z)) → P x → (i : ℕ) → P (get_or (set l k x) i z)
+set_keeps_read P z [] k x h p i = h i
+set_keeps_read P z (y ∷ l) zero x h p zero = p
+set_keeps_read P z (y ∷ l) zero x h p (suc i) = h (suc i)
+set_keeps_read P z (y ∷ l) (suc k) x h p zero = h 0
+set_keeps_read P z (y ∷ l) (suc k) x h p (suc i) = set_keeps_read P z l k x (λ j. h (suc j)) p i
 
 -- turn n puts in the element of its number, and R holds between the old one and the new
 pub record Turn {S A : Type 0} (list : S → List A) (z : A) (R : ℕ → A → A → Type 0) (n : ℕ) (s t : S) : Type 0 where

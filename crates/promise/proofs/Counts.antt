@@ -1,4 +1,4 @@
--- There are 34 levels and 18 phases: a list of each has every one of them, at one place alone. Assumes nothing.
+-- There are 42 levels and 18 phases: a list of each has every one of them, at one place alone. Assumes nothing.
 use Prim.Native.Nat.{ℕ, zero, suc, ◌+◌, ◌<◌}
 use native.Mathlib.Nat.{suc-le-suc_iff, zero-lt-suc, le_of_suc-le-suc, zero-add, suc-add}
 use native.Mathlib.Bridge.{le_prop}
@@ -6,7 +6,7 @@ use native.Mathlib.Omega.{arith}
 use mathlib.Core.Path.{◌≡◌, refl, sym, ap, ◌∙◌}
 use mathlib.Core.List.{List, [], ◌∷◌, ◌++◌, map, append-nil}
 use lib.ListN.{get_or, length}
-use Rattle.promise.specs.Levels.{below, Which, pitch, amp, amp2, hat, cymbal, chain_amp, chain_filter, levels, place_of, Osc, dual1, dual2, hat_osc, cym_osc, phases, phase_place}
+use Rattle.promise.specs.Levels.{below, Which, pitch, amp, amp2, hat, cymbal, chain_amp, chain_filter, chain_amp_r, levels, place_of, Osc, dual1, dual2, hat_osc, cym_osc, phases, phase_place}
 
 -- the numbers from i on, n of them
 pub up_from : ℕ → ℕ → List ℕ
@@ -37,13 +37,16 @@ pub record Counted {A : Type 0} (n : ℕ) (all : List A) (place : A → ℕ) : T
   pub has : (o a : A) → get_or all (place a) o ≡ a
   pub once : map place all ≡ up_from 0 n
 
-pub levels_34 : Counted 34 levels place_of
+pub levels_42 : Counted 42 levels place_of
 unfolding levels below up_from
-levels_34 = record { count = refl; has = has; once = refl }
+levels_42 = record { count = refl; has = has; once = refl }
   where
     -- what follows each family
+    f7 : List Which
+    f7 = below 8 chain_amp_r
+
     f6 : List Which
-    f6 = below 8 chain_filter
+    f6 = below 8 chain_filter ++ f7
 
     f5 : List Which
     f5 = below 8 chain_amp ++ f6
@@ -73,7 +76,9 @@ levels_34 = record { count = refl; has = has; once = refl }
     has o hat = to3 o 0 ∙ here o 1 (λ i h. hat) f4 0 (zero-lt-suc 0)
     has o (cymbal r h) = to4 o r ∙ here o 8 cymbal f5 r h
     has o (chain_amp v h) = to4 o (8 + v) ∙ past o 8 cymbal f5 v ∙ here o 8 chain_amp f6 v h
-    has o (chain_filter v h) = to4 o (8 + (8 + v)) ∙ past o 8 cymbal f5 (8 + v) ∙ past o 8 chain_amp f6 v ∙ last o 8 chain_filter v h
+    has o (chain_filter v h) = to4 o (8 + (8 + v)) ∙ past o 8 cymbal f5 (8 + v) ∙ past o 8 chain_amp f6 v ∙ here o 8 chain_filter f7 v h
+    has o (chain_amp_r v h) =
+        to4 o (8 + (8 + (8 + v))) ∙ past o 8 cymbal f5 (8 + (8 + v)) ∙ past o 8 chain_amp f6 (8 + v) ∙ past o 8 chain_filter f7 v ∙ last o 8 chain_amp_r v h
 
 pub phases_18 : Counted 18 phases phase_place
 unfolding phases below up_from

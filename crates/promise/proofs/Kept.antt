@@ -33,7 +33,7 @@ use Rattle.board.specs.declared.Analog.{Analog}
 use Rattle.board.specs.declared.Inputs.{Inputs}
 use Rattle.board.specs.Board.{taken_of, stepped_of}
 use Rattle.promise.specs.Calls.{Call, given_of, taken, next_of}
-use Rattle.promise.specs.Levels.{Which, pitch, amp, amp2, hat, cymbal, chain_amp, chain_filter, state_at, level_at, record_at}
+use Rattle.promise.specs.Levels.{Which, pitch, amp, amp2, hat, cymbal, chain_amp, chain_filter, chain_amp_r, state_at, level_at, record_at}
 use Rattle.promise.specs.Promise.{move_of}
 use Rattle.promise.proofs.Calls.{stepped_by, Way, took, left, way}
 
@@ -52,6 +52,7 @@ good_levels b g hat = g.sources.hat.env
 good_levels b g (cymbal r h) = g.sources.cym.env r h
 good_levels b g (chain_amp v h) = (g.chains v h).amp
 good_levels b g (chain_filter v h) = (g.chains v h).flt
+good_levels b g (chain_amp_r v h) = (g.chains v h).amp_r
 
 -- ---- an accepted step: each voice and chain by its own sample
 record Stepped (b : Analog) (f : List ℕ) (n : Analog) : Type 0 where
@@ -99,6 +100,7 @@ state_after b f n g s (cymbal r h) =
     ∙ ap (λ (e : Env). State.hit (mode_of (record_at f (cymbal r h))) e.level) m.0
 state_after b f n g s (chain_amp v h) = ap (λ (e : Chain). State.chain_amp e.amp) (s.chains v h).is
 state_after b f n g s (chain_filter v h) = ap (λ (e : Chain). State.chain_filter e.flt) (s.chains v h).is
+state_after b f n g s (chain_amp_r v h) = ap (λ (e : Chain). State.chain_amp e.amp_r) (s.chains v h).is
 
 -- ---- one call
 pub call_good : (b : Analog) (k : Call) → Good b → Good (next_of b k)

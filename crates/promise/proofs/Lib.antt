@@ -8,3 +8,4 @@ pub mod Words
 pub mod Counts
 pub mod Whole
 pub mod Corollaries
+pub mod BeforeR5

@@ -24,7 +24,7 @@ use Rattle.envelope.proofs.States.{never_held, never_parked}
 use Rattle.board.specs.declared.Analog.{Analog}
 use Rattle.board.specs.Board.{in_range, all_in_range, input_ok, inputs_ok, refusal_of}
 use Rattle.promise.specs.Calls.{Given, Call, step, taken, next_of}
-use Rattle.promise.specs.Levels.{Which, pitch, amp, amp2, hat, cymbal, chain_amp, chain_filter, offset_at, state_at, level_at, record_at}
+use Rattle.promise.specs.Levels.{Which, pitch, amp, amp2, hat, cymbal, chain_amp, chain_filter, chain_amp_r, offset_at, state_at, level_at, record_at}
 use Rattle.promise.specs.Promise.{ticks_in, EachAccepted, Continues, Stretched}
 use Rattle.promise.proofs.Kept.{Good, good_levels, call_good, call_state}
 use Rattle.promise.proofs.Run.{run_arrives}
@@ -88,6 +88,7 @@ eighth hat = record { k = 61; is = refl; inside = omega arith }
 eighth (cymbal r h) = record { k = 62 + r; is = omega arith; inside = omega arith }
 eighth (chain_amp v h) = record { k = 21 + v; is = omega arith; inside = omega arith }
 eighth (chain_filter v h) = record { k = 37 + v; is = omega arith; inside = omega arith }
+eighth (chain_amp_r v h) = record { k = 29 + v; is = omega arith; inside = omega arith }
 
 one : (c : Bool) (t : ℕ) → t < 256 → Given
 one c t h = record { frame = copies 83 (eight c t); bytes = copies_bytes 83 c t h; dac = replicate 16 (pos 0); fx = replicate 24 0; inputs = record { audio = record { l = k0; r = k0 }; ext = record { l = k0; r = k0 } } }

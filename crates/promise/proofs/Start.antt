@@ -76,7 +76,7 @@ cym_in = record {
 
 chain_in : ChainIn chain_new
 unfolding chain_new
-chain_in = record { amp = level_0; flt = level_0 }
+chain_in = record { amp = level_0; amp_r = level_0; flt = level_0 }
 
 wobble_in : (seed : ℕ) (ideal : Bool) → seed < 2 ^ 32 → WobbleIn (new_of seed ideal)
 unfolding new_of

@@ -1,10 +1,10 @@
--- The 34 levels and the 18 phases of a board. Definitions only.
+-- The 42 levels and the 18 phases of a board. Definitions only.
 use Rattle.std.specs.Prelude.{ℕ, zero, suc, ◌+◌, ◌*◌, ◌<◌, List, [], ◌∷◌, ◌++◌, get_or, Float}
 use Rattle.std.proofs.Math.Nat.{suc-le-suc_iff}
 use Rattle.std.proofs.Common.{zero-lt-suc}
 use Rattle.std.specs.Float.{nan}
 use Rattle.frame.specs.Frame.{bytes_at}
-use Rattle.frame.specs.Offsets.{AMP_ENV, FLT_ENV, HAT_ENV, CYM_ENV, PITCH_REC, AMP_REC, AMP2_REC, dual_spec}
+use Rattle.frame.specs.Offsets.{AMP_ENV, AMP_ENV_R, FLT_ENV, HAT_ENV, CYM_ENV, PITCH_REC, AMP_REC, AMP2_REC, dual_spec}
 use Rattle.envelope.specs.Moves.{Move}
 use Rattle.envelope.specs.States.{State, level_within, move_in}
 use Rattle.cym.specs.Cym.{no_env}
@@ -17,15 +17,15 @@ unfoldable pub below : {A : Type 0} → (n : ℕ) → ((i : ℕ) → i < n → A
 below zero c = []
 below (suc n) c = c zero (zero-lt-suc n) ∷ below n (λ i h. c (suc i) (suc-le-suc_iff.1 h))
 
--- "There are 34 levels: three per dual voice, one hat, eight cymbal, two per chain"
+-- "There are 34 levels: three per dual voice, one hat, eight cymbal, two per chain", and with the right amp of each chain "There are now 42 levels"
 pub data Which : Type 0 where
   pitch amp amp2 : (d : ℕ) → d < 3 → Which
   hat : Which
   cymbal : (r : ℕ) → r < 8 → Which
-  chain_amp chain_filter : (v : ℕ) → v < 8 → Which
+  chain_amp chain_filter chain_amp_r : (v : ℕ) → v < 8 → Which
 
 unfoldable pub levels : List Which
-levels = below 3 pitch ++ (below 3 amp ++ (below 3 amp2 ++ (below 1 (λ i h. hat) ++ (below 8 cymbal ++ (below 8 chain_amp ++ below 8 chain_filter)))))
+levels = below 3 pitch ++ (below 3 amp ++ (below 3 amp2 ++ (below 1 (λ i h. hat) ++ (below 8 cymbal ++ (below 8 chain_amp ++ (below 8 chain_filter ++ below 8 chain_amp_r))))))
 
 -- where the list has a level
 abbrev pub place_of : Which → ℕ
@@ -36,6 +36,7 @@ place_of hat = 3 + (3 + (3 + 0))
 place_of (cymbal r h) = 3 + (3 + (3 + (1 + r)))
 place_of (chain_amp v h) = 3 + (3 + (3 + (1 + (8 + v))))
 place_of (chain_filter v h) = 3 + (3 + (3 + (1 + (8 + (8 + v)))))
+place_of (chain_amp_r v h) = 3 + (3 + (3 + (1 + (8 + (8 + (8 + v))))))
 
 -- the envelope of a level, where it lies on the board
 abbrev pub state_at : Analog → Which → State
@@ -46,6 +47,7 @@ state_at b hat = State.hit b.hat.mode b.hat.env.level
 state_at b (cymbal r h) = State.hit (get_or b.cym.mode r 0) (get_or b.cym.env r no_env).level
 state_at b (chain_amp v h) = State.chain_amp (get_or b.chains v no_chain).amp
 state_at b (chain_filter v h) = State.chain_filter (get_or b.chains v no_chain).flt
+state_at b (chain_amp_r v h) = State.chain_amp (get_or b.chains v no_chain).amp_r
 
 -- where its record stands in the frame
 abbrev pub offset_at : Which → ℕ
@@ -56,6 +58,7 @@ offset_at hat = HAT_ENV
 offset_at (cymbal r h) = CYM_ENV + 8 * r
 offset_at (chain_amp v h) = AMP_ENV + 8 * v
 offset_at (chain_filter v h) = FLT_ENV + 8 * v
+offset_at (chain_amp_r v h) = AMP_ENV_R + 8 * v
 
 -- the level, its eight bytes, and its move in an accepted step: the one that the definition of the step makes of the board and the bytes
 abbrev pub level_at : Analog → Which → Float

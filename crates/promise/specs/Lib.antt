@@ -2,3 +2,4 @@
 pub mod Calls
 pub mod Levels
 pub mod Promise
+pub mod BeforeR5

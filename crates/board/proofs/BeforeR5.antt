@@ -1,0 +1,63 @@
+-- A step beside the one before R-5: where both amps of each chain stand alike and both records of each voice are the same bytes, it answers as that one, and the
+-- amps stand alike after it. A fresh board is that one's, and its amps stand alike. Assumes nothing.
+use Prim.Native.Nat.{ℕ, zero, suc}
+use mathlib.Core.Path.{◌≡◌, refl}
+use mathlib.Core.Bool.{Bool, true, false}
+use mathlib.Core.List.{List}
+use lib.ListN.{replicate, get_or}
+use lib.Dec.{T}
+use lib.IntN.{ℤ}
+use Rattle.std.specs.Prelude.{Option}
+use Rattle.sources.specs.Sources.{sound_of}
+use Rattle.chain.specs.Chain.{no_chain, chain_new}
+use Rattle.chain.specs.BeforeR5.{chain_new_before}
+use Rattle.bus.specs.Bus.{voices_of}
+use Rattle.bus.specs.BeforeR5.{voices_before, chains_then, Paired, BothAlike}
+use Rattle.bus.proofs.BeforeR5.{AsBefore, mix_as_before, voices_as_before}
+use Rattle.board.specs.declared.Analog.{Analog}
+use Rattle.board.specs.declared.Inputs.{Inputs}
+use Rattle.board.specs.declared.refusals.Refusal.{Refusal}
+use Rattle.board.specs.Board.{fresh_of, taken_of, stepped_of, refused_of, refusal_of, accepted, answered_if, answer_of}
+use Rattle.board.specs.BeforeR5.{AnalogBefore, fresh_before, taken_before, stepped_before, refused_before, answered_before, answer_before, board_then, answer_then}
+
+pub fresh_as_before : (seed : ℕ) (ideal : Bool) → fresh_before seed ideal ≡ board_then (fresh_of seed ideal)
+unfolding fresh_before fresh_of chain_new_before chain_new chains_then
+fresh_as_before seed ideal = refl
+
+pub fresh_paired : (seed : ℕ) (ideal : Bool) → Paired (fresh_of seed ideal).chains
+unfolding fresh_of chain_new
+fresh_paired seed ideal v = each 8 v
+  where
+    each : (n v : ℕ) → (get_or (replicate n chain_new) v no_chain).amp_r ≡ (get_or (replicate n chain_new) v no_chain).amp
+    each zero v = refl
+    each (suc n) zero = refl
+    each (suc n) (suc v) = each n v
+
+module _ (b : Analog) (f : List ℕ) (dac : List ℤ) (fx : List ℕ) (x : Inputs) (p : Paired b.chains) where
+  voices : BothAlike f → let src = (sound_of f dac (taken_of b)).src in AsBefore (voices_of f dac src b.chains) (voices_before f dac src (chains_then b.chains))
+  voices alike = voices_as_before f dac (sound_of f dac (taken_of b)).src b.chains alike p
+
+  pub stepped_as_before : BothAlike f → stepped_before (board_then b) f dac fx x ≡ answer_then (stepped_of b f dac fx x)
+  unfolding stepped_before stepped_of taken_before taken_of
+  stepped_as_before alike = let v = voices alike in rw (v.same.chains, v.same.rx, mix_as_before _ _ v) refl
+
+  pub stepped_paired : BothAlike f → Paired (stepped_of b f dac fx x).board.chains
+  unfolding stepped_of
+  stepped_paired alike = (voices alike).paired
+
+  pub answer_as_before : (T (accepted (refusal_of f dac fx x)) → BothAlike f) → answer_before (board_then b) f dac fx x ≡ answer_then (answer_of b f dac fx x)
+  unfolding answer_before answer_of answered_before answered_if refused_before refused_of
+  answer_as_before alike = by (accepted (refusal_of f dac fx x)) (refusal_of f dac fx x) alike
+    where
+      by : (t : Bool) (o : Option Refusal) → (T t → BothAlike f) → answered_before t o (board_then b) f dac fx x ≡ answer_then (answered_if t o b f dac fx x)
+      by true o h = stepped_as_before (h tt)
+      by false o h = refl
+
+-- a step's refusal, on whatever boards
+pub refusal_as_before : (b : Analog) (e : AnalogBefore) (f : List ℕ) (dac : List ℤ) (fx : List ℕ) (x : Inputs) → (answer_of b f dac fx x).refusal ≡ (answer_before e f dac fx x).refusal
+unfolding answer_before answer_of answered_before answered_if refused_before refused_of stepped_before stepped_of
+refusal_as_before b e f dac fx x = by (accepted (refusal_of f dac fx x)) (refusal_of f dac fx x)
+  where
+    by : (t : Bool) (o : Option Refusal) → (answered_if t o b f dac fx x).refusal ≡ (answered_before t o e f dac fx x).refusal
+    by true o = refl
+    by false o = refl

@@ -9,7 +9,8 @@
 //!     --receive           each generated step by the call that copies its words, with slot tables and destinations of every kind
 //!     --record FILE       writes a recording of N generated steps of all styles (at most 4096), and compares nothing
 //!
-//! Of an oracle without R-3 (tools/oracle) the FM phases that the request changes are counted apart, and have to be all that it met.
+//! What a request changes is counted by itself where the oracle (tools/oracle) is without it: of R-3 the FM phases, which have to be all that it met; of R-5 the
+//! steps whose mix differs, each of which has to be one with a chain whose sides are apart. A step that differs in anything else is a difference.
 //!
 //! Links board_c curves_c.
 
@@ -47,7 +48,7 @@ mod sides;
 mod strips;
 
 use desk::Desk;
-use fields::bits;
+use fields::{bits, Names};
 use frames::{Style, STYLES};
 use met::{Count, Met};
 use oracle::analog as rust;
@@ -75,6 +76,8 @@ struct Report {
     of: Vec<u64>,
     /// FM phases of 1 in an oracle without R-3 where the port has 0.
     phases: u64,
+    /// Steps whose mix is another in an oracle without R-5.
+    mixes: u64,
     met: Met,
     copies: receive::Met,
     /// Curve calls, of boards that came from fresh ones and of random ones.
@@ -83,7 +86,7 @@ struct Report {
 
 impl Report {
     fn new() -> Report {
-        Report { steps: 0, differ: 0, of: Vec::new(), phases: 0, met: Met::new(), copies: receive::Met::new(), curves: [counted::take(); 2] }
+        Report { steps: 0, differ: 0, of: Vec::new(), phases: 0, mixes: 0, met: Met::new(), copies: receive::Met::new(), curves: [counted::take(); 2] }
     }
 
     /// Takes the counts of the curve calls since the last time.
@@ -117,14 +120,14 @@ impl Report {
         let board = Analog::of(&rust);
         self.met.fresh(seed, ideal);
         let of = |board: Analog| Answer { number: 0, rx: [0; 12], mix: Mix { l: 0.0, r: 0.0 }, board };
-        if self.differs(&of(*port.state()), &of(board), || println!("fresh boards differ: seed {seed}, ideal {ideal}")) {
+        if self.differs(&of(*port.state()), &of(board), false, || println!("fresh boards differ: seed {seed}, ideal {ideal}")) {
             return Twin { port: Board::of(board), rust, board, random: false };
         }
         Twin { port, rust, board, random: false }
     }
 
-    /// Whether the port's answer differs from the Rust's; the first time all of it is told.
-    fn differs(&mut self, port: &Answer, rust: &Answer, place: impl Fn()) -> bool {
+    /// Whether the port's answer differs from the Rust's, of a step with a chain's sides apart or not; the first time all of it is told.
+    fn differs(&mut self, port: &Answer, rust: &Answer, apart: bool, place: impl Fn()) -> bool {
         let (ours, theirs) = (sides::row(port), sides::row(rust));
         if ours == theirs {
             return false;
@@ -132,14 +135,17 @@ impl Report {
         let names = sides::names(rust);
         self.of.resize(names.words.len(), 0);
         let fields = ours.against(&theirs, &names);
-        let changed = requested(port, rust);
-        let other = fields.len() as u64 > changed;
-        if other && self.differ == 0 || !other && self.phases == 0 {
+        let phases = phases(port, rust);
+        let mixed = if apart { mixed(&fields, &names) } else { 0 };
+        let other = fields.len() as u64 > phases + mixed;
+        let first = phases > 0 && self.phases == 0 || mixed > 0 && self.mixes == 0;
+        if other && self.differ == 0 || !other && first {
             place();
             fields.iter().for_each(|(_, text)| println!("  {text}"));
         }
         fields.iter().for_each(|(i, _)| self.of[*i] += 1);
-        self.phases += changed;
+        self.phases += phases;
+        self.mixes += (mixed > 0) as u64;
         self.differ += other as u64;
         true
     }
@@ -156,9 +162,10 @@ impl Report {
                 Sides { port: sides::port_step(&mut twin.port, case), rust, same: true, raw: rust.rx }
             }
         };
+        let apart = oracle::sides_apart() > 0;
         let written = !same || lent.0 != case.frame || lent.1 != case.dac || lent.2 != case.fx;
         twin.board = theirs.board;
-        self.met.note(&before, case, &Answer { rx: raw, ..theirs });
+        self.met.note(&before, case, &Answer { rx: raw, ..theirs }, apart);
         let at = self.steps;
         self.steps += 1;
         let tell = || {
@@ -170,7 +177,7 @@ impl Report {
             let of = Answer { board: before, ..theirs };
             println!("  board before: {}", sides::row(&of).all(&sides::names(&of), 15));
         };
-        if self.differs(&ours, &theirs, tell) {
+        if self.differs(&ours, &theirs, apart, tell) {
             twin.port = Board::of(theirs.board);
         }
         if written {
@@ -200,27 +207,41 @@ impl Report {
             let open: Vec<String> = (0..self.of.len()).filter(|&i| self.of[i] > 0).map(|i| format!("{} {}", names.words[i].0, self.of[i])).collect();
             println!("differing fields: {}", open.join(", "));
         }
-        if oracle::R3 {
-            println!("compared {} steps: {} differences", self.steps, self.differ);
-            std::process::exit((self.differ != 0) as i32);
+        let (ones, apart) = (self.met.fm_ones(), self.met.apart());
+        if !oracle::R3 {
+            println!("FM phases of 1 in the Rust and 0 in the port: {}, met in the Rust: {ones}", self.phases);
         }
-        let met = self.met.fm_ones();
-        println!("FM phases of 1 in the Rust and 0 in the port: {}, met in the Rust: {met}", self.phases);
-        println!("compared {} steps: {} differences but these", self.steps, self.differ);
-        std::process::exit((self.differ != 0 || self.phases != met) as i32);
+        if !oracle::R5 {
+            println!("steps whose mix differs: {}, of {apart} with a chain whose sides are apart", self.mixes);
+        }
+        let these = if oracle::R3 && oracle::R5 { "" } else { " but these" };
+        println!("compared {} steps: {} differences{these}", self.steps, self.differ);
+        std::process::exit((self.differ != 0 || !oracle::R3 && self.phases != ones) as i32);
     }
 }
 
 /// FM phases that differ as R-3 has it, where the oracle is without it: 1 in the Rust, 0 in the port.
-fn requested(port: &Answer, rust: &Answer) -> u64 {
+fn phases(port: &Answer, rust: &Answer) -> u64 {
     let pairs = port.board.duals.iter().zip(&rust.board.duals);
     pairs.filter(|(p, r)| !oracle::R3 && p.ph1.to_bits() == 0 && r.ph1 == 1.0).count() as u64
+}
+
+/// Fields that differ as R-5 has it, where the oracle is without it: the right mix, the compressor, which hears it, and with the compressor's level the left mix.
+fn mixed(fields: &[(usize, String)], names: &Names) -> u64 {
+    let name = |i: usize| names.words[i].0.as_str();
+    let level = fields.iter().any(|(i, _)| name(*i) == "comp.env");
+    let of = |name| match name {
+        "rx[11]" | "mix.r" | "comp.env" | "comp.sc.lo" | "comp.sc.hi" => true,
+        "rx[10]" | "mix.l" => level,
+        _ => false,
+    };
+    fields.iter().filter(|(i, _)| !oracle::R5 && of(name(*i))).count() as u64
 }
 
 /// A value that is not finite stays in these for ever, or for long.
 fn stuck(b: &Analog) -> bool {
     let filters = b.hat.hp.low + b.cym.svf.iter().map(|s| s.low).sum::<f32>() + b.toms.iter().map(|t| t.y1).sum::<f32>();
-    let chains = b.chains.iter().map(|c| c.lp1 + c.amp.level + c.flt.level).sum::<f32>();
+    let chains = b.chains.iter().map(|c| c.lp1 + c.amp.level + c.amp_r.level + c.flt.level).sum::<f32>();
     !(filters + chains + b.comp.env + b.comp.sc.lo).is_finite()
 }
 

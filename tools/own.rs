@@ -1,5 +1,5 @@
-//! The port beside the published Rust as a bench ran it, with its own library's curves (tools/oracle --own-curves). Each goes on from its own board,
-//! and neither is ever set right. Told for each tenfold of steps: of each receive word in how many steps it differs, the distance that
+//! The port beside the Rust with its own library's curves (tools/oracle --own-curves), as a bench ran it but for the requests in force. Each goes on from its
+//! own board, and neither is ever set right. Told for each tenfold of steps: of each receive word in how many steps it differs, the distance that
 //! 99.9 % of the steps keep within, and the worst.
 //!
 //!     --recording FILE    the steps of a recording (edition 1)

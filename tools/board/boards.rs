@@ -5,6 +5,7 @@ use crate::rng::Rng;
 use crate::rytm::{Analog, Chain, Comp, Cym, DualOsc, Hat, Key, Sc, SegEnv, Tom};
 use crate::state::{State, SOURCES};
 use crate::states::{self, Wild};
+use crate::strips::AMP_ENV_R;
 
 /// A chain's envelope that follows this record: its level often a little off the target.
 fn seg(x: &mut Wild, r: &[u8]) -> SegEnv {
@@ -36,8 +37,9 @@ pub fn random(rng: &mut Rng, f: &[u8]) -> Analog {
     let of8 = rng.pick(&[0, 0, 1, 3, 8]);
     let mut x = Wild { rng, of8 };
     let chains = std::array::from_fn(|v| {
-        let (amp, flt) = (seg(&mut x, &f[rust::AMP_ENV + 8 * v..]), seg(&mut x, &f[rust::FLT_ENV + 8 * v..]));
-        Chain { amp, flt, low: x.filter(), band: x.filter(), lp1: x.filter() }
+        let mut of = |records: usize| seg(&mut x, &f[records + 8 * v..]);
+        let (amp, amp_r, flt) = (of(rust::AMP_ENV), of(AMP_ENV_R), of(rust::FLT_ENV));
+        Chain { amp, flt, low: x.filter(), band: x.filter(), lp1: x.filter(), amp_r }
     });
     let usual = x.rng.unit();
     let env = x.float(usual, &[0.0, 1e-6, 9.999999e-7, 1e-5, 1.0, 10.0, -1.0, 1e30]);

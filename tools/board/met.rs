@@ -5,6 +5,7 @@ use crate::oracle::analog as rust;
 use crate::rytm::{Analog, Answer, Chain, SegEnv};
 use crate::sides::{Case, HIGH, LOW};
 use crate::state::State;
+use crate::strips::AMP_ENV_R;
 
 macro_rules! counts {
     ($($id:ident $name:literal,)*) => {
@@ -45,22 +46,25 @@ counts! {
     InNan "input not a number, nothing else wrong",
     InInfinite "input infinite, nothing else wrong",
     Several "more than one fault",
-    AmpStart "chain: amp restarts",
-    AmpAgain "chain: amp command seen again, no restart",
+    LeftStart "chain: left amp restarts",
+    LeftAgain "chain: left amp command seen again, no restart",
+    RightStart "chain: right amp restarts",
+    RightAgain "chain: right amp command seen again, no restart",
+    LeftAlone "chain: left amp restarts, right does not",
+    RightAlone "chain: right amp restarts, left has no command",
+    RightLate "chain: right amp restarts, left had its command",
+    Same "chain: amp records the same",
+    Different "chain: amp records different",
+    Modes "chain: amp records of different modes",
+    LeftHeld "chain: left amp held, right falls",
+    RightHeld "chain: right amp held, left falls",
+    Sound "chain: both amp levels above 0",
+    LeftSounds "chain: left amp level above 0, right not",
+    RightSounds "chain: right amp level above 0, left not",
+    Mute "chain: both amp levels at or below 0",
+    Apart "steps with a chain whose sides are apart",
     FltStart "chain: filter restarts",
     FltChange "chain: filter record changes, no restart",
-    HoldRate "hold: mode 3, rate 0",
-    HoldAt "hold: mode 3, at the target",
-    HoldNear "hold: mode 3, nearer than 0.001 and short of it",
-    Release3 "hold: mode 3 releases",
-    Hold0 "hold: mode 0, rate 0",
-    Keep0 "hold: mode 0 keeps a hold",
-    Run0 "hold: mode 0 keeps running",
-    Ramp "hold: 9, B, F release",
-    KeepOther "hold: other modes keep a hold",
-    RunOther "hold: other modes keep running",
-    Sounds "chain: amp level above 0",
-    Mute "chain: amp level at or below 0",
     Driven "chain: overdriven",
     Cleared "chain: integrators cleared (at least)",
     ClearedNan "chain: cleared, one-pole left not finite",
@@ -104,6 +108,21 @@ const GROUPS: [(&str, usize, &[(&str, u8, u8)]); 5] = [
     ),
 ];
 
+/// The envelopes of a chain, and what an envelope's mode does with its hold.
+const ENVELOPES: [&str; 3] = ["left amp", "right amp", "filter"];
+const HOLDS: [&str; 10] = [
+    "mode 3, rate 0",
+    "mode 3, at the target",
+    "mode 3, nearer than 0.001 and short of it",
+    "mode 3 releases",
+    "mode 0, rate 0",
+    "mode 0 keeps a hold",
+    "mode 0 keeps running",
+    "9, B, F release",
+    "other modes keep a hold",
+    "other modes keep running",
+];
+
 const FILTERS: [&str; 8] = ["0 LP2", "1 BP", "2 HP1", "3 PK", "4 HP2", "5 BS", "6 LP1", "7 LP2"];
 
 pub struct Met {
@@ -111,6 +130,8 @@ pub struct Met {
     /// By number, those of a step.
     answers: [u64; 6],
     sources: Coverage,
+    /// By envelope.
+    holds: [[u64; 10]; 3],
     filter: [[u64; 8]; 8],
     routed_off: [u64; 8],
     groups: [[u64; 10]; 5],
@@ -118,7 +139,8 @@ pub struct Met {
 
 impl Met {
     pub fn new() -> Met {
-        Met { count: [0; NAMES.len()], answers: [0; 6], sources: Coverage::new(), filter: [[0; 8]; 8], routed_off: [0; 8], groups: [[0; 10]; 5] }
+        let (holds, filter) = ([[0; 10]; 3], [[0; 8]; 8]);
+        Met { count: [0; NAMES.len()], answers: [0; 6], sources: Coverage::new(), holds, filter, routed_off: [0; 8], groups: [[0; 10]; 5] }
     }
 
     pub fn add(&mut self, c: Count, met: bool) {
@@ -142,12 +164,18 @@ impl Met {
         self.sources.fm_ones()
     }
 
-    /// One step: the board before it, what it was given, and the Rust's answer.
-    pub fn note(&mut self, before: &Analog, case: &Case, answer: &Answer) {
+    /// How many steps had a chain whose sides are apart.
+    pub fn apart(&self) -> u64 {
+        self.count[Count::Apart as usize]
+    }
+
+    /// One step: the board before it, what it was given, the Rust's answer, and whether a chain's sides were apart.
+    pub fn note(&mut self, before: &Analog, case: &Case, answer: &Answer, apart: bool) {
         if let Some(n) = self.answers.get_mut(answer.number as usize) {
             *n += 1;
         }
         self.given(case, answer.number);
+        self.add(Count::Apart, apart);
         if answer.number != 0 {
             return;
         }
@@ -207,19 +235,37 @@ impl Met {
         self.routed_off[v] += (f[rust::ROUTE] >> rust::ROUTE_BIT[v] & 1) as u64;
         let ovr = rust::word(f, rust::OVR + 2 * v) as f32 / 65536.0;
         self.add(Driven, 1.0 + 8.0 * ovr * ovr > 1.01);
-        let (amp, flt) = (&f[rust::AMP_ENV + 8 * v..][..8], &f[rust::FLT_ENV + 8 * v..][..8]);
-        let command = amp[0] | amp[1] != 0;
-        self.add(AmpStart, command && !b.amp.cmd);
-        self.add(AmpAgain, command && b.amp.cmd);
+        let record = |records: usize| &f[records + 8 * v..][..8];
+        let (amp, amp_r, flt) = (record(rust::AMP_ENV), record(AMP_ENV_R), record(rust::FLT_ENV));
+        let (left, right) = (amp[0] | amp[1] != 0, amp_r[0] | amp_r[1] != 0);
+        let (left_starts, right_starts) = (left && !b.amp.cmd, right && !b.amp_r.cmd);
+        self.add(LeftStart, left_starts);
+        self.add(LeftAgain, left && b.amp.cmd);
+        self.add(RightStart, right_starts);
+        self.add(RightAgain, right && b.amp_r.cmd);
+        self.add(LeftAlone, left_starts && !right_starts);
+        self.add(RightAlone, right_starts && !left);
+        self.add(RightLate, right_starts && left && b.amp.cmd);
+        self.add(Same, amp == amp_r);
+        self.add(Different, amp != amp_r);
+        self.add(Modes, amp[4] >> 4 != amp_r[4] >> 4);
+        self.add(LeftHeld, a.amp.hold && a.amp_r.level < b.amp_r.level && !right_starts);
+        self.add(RightHeld, a.amp_r.hold && a.amp.level < b.amp.level && !left_starts);
+        let sounds = match (a.amp.level > 0.0, a.amp_r.level > 0.0) {
+            (true, true) => Sound,
+            (true, _) => LeftSounds,
+            (_, true) => RightSounds,
+            _ => Mute,
+        };
+        self.add(sounds, true);
         let rate = u32::from_be_bytes(flt[4..].try_into().unwrap()) & 0xf_ffff;
         let changed = (flt[2], flt[3], rate) != (b.flt.key.start, b.flt.key.target, b.flt.key.rate);
         let starts = changed && matches!(flt[4] >> 4, 9 | 0xF);
         self.add(FltStart, starts);
         self.add(FltChange, changed && !starts);
-        self.hold(&b.amp, amp, command && !b.amp.cmd);
-        self.hold(&b.flt, flt, starts);
-        self.add(Sounds, a.amp.level > 0.0);
-        self.add(Mute, a.amp.level <= 0.0);
+        self.hold(0, &b.amp, amp, left_starts);
+        self.hold(1, &b.amp_r, amp_r, right_starts);
+        self.hold(2, &b.flt, flt, starts);
         // Both integrators at zero from a state that no filter brings there.
         let from = !b.low.is_finite() || !b.band.is_finite() || b.low.abs() > 0.001 || b.lp1.is_finite() && !a.lp1.is_finite();
         let cleared = a.low == 0.0 && a.band == 0.0 && from;
@@ -228,26 +274,25 @@ impl Met {
         self.add(NanPole, !a.lp1.is_finite());
     }
 
-    /// Which hold rule an envelope met.
-    fn hold(&mut self, e: &SegEnv, r: &[u8], starts: bool) {
-        use Count::*;
+    /// Which of HOLDS an envelope met.
+    fn hold(&mut self, envelope: usize, e: &SegEnv, r: &[u8], starts: bool) {
         let record = rust::Record::parse(r);
         let still = u32::from_be_bytes(r[4..].try_into().unwrap()) & 0xf_ffff == 0;
         let level = if starts { record.start } else { e.level };
         let away = (record.target - level).abs();
         let rule = match (r[4] >> 4, still, e.hold) {
-            (3, true, _) => HoldRate,
-            (3, ..) if away == 0.0 => HoldAt,
-            (3, ..) if away < 1e-3 => HoldNear,
-            (3, ..) => Release3,
-            (0, true, _) => Hold0,
-            (0, _, true) => Keep0,
-            (0, ..) => Run0,
-            (9 | 0xB | 0xF, ..) => Ramp,
-            (_, _, true) => KeepOther,
-            _ => RunOther,
+            (3, true, _) => 0,
+            (3, ..) if away == 0.0 => 1,
+            (3, ..) if away < 1e-3 => 2,
+            (3, ..) => 3,
+            (0, true, _) => 4,
+            (0, _, true) => 5,
+            (0, ..) => 6,
+            (9 | 0xB | 0xF, ..) => 7,
+            (_, _, true) => 8,
+            _ => 9,
         };
-        self.add(rule, true);
+        self.holds[envelope][rule] += 1;
     }
 
     fn mix(&mut self, before: &Analog, case: &Case, answer: &Answer) {
@@ -284,6 +329,10 @@ impl Met {
         for (n, (name, c)) in names.iter().zip(&self.answers).enumerate() {
             println!("{:50}{c:>12}", format!("answer {n}, {name}"));
         }
+        println!("{:50}{}", "hold by envelope", ENVELOPES.map(|name| format!("{name:>12}")).concat());
+        for (rule, name) in HOLDS.iter().enumerate() {
+            println!("{name:50}{}", self.holds.map(|n| format!("{:>12}", n[rule])).concat());
+        }
         println!("{:26}{}", "filter code by voice", (0..8).map(|v| format!("{v:>12}")).collect::<String>());
         for (code, name) in FILTERS.iter().enumerate() {
             println!("{name:26}{}", (0..8).map(|v| format!("{:>12}", self.filter[v][code])).collect::<String>());
@@ -298,6 +347,9 @@ impl Met {
         }
         let mut never: Vec<String> = NAMES.iter().zip(&self.count).filter(|(_, n)| **n == 0).map(|(name, _)| name.to_string()).collect();
         never.extend((0..6).filter(|&n| self.answers[n] == 0).map(|n| format!("answer {n}")));
+        for (name, n) in ENVELOPES.iter().zip(&self.holds) {
+            never.extend(HOLDS.iter().zip(n).filter(|(_, n)| **n == 0).map(|(rule, _)| format!("{name}, {rule}")));
+        }
         never.extend((0..8).filter(|&v| self.filter[v].contains(&0)).map(|v| format!("a filter code of voice {v}")));
         never.extend((0..8).filter(|&v| self.routed_off[v] == 0).map(|v| format!("voice {v} routed off")));
         for ((name, _, kinds), counts) in GROUPS.iter().zip(&self.groups) {

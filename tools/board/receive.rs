@@ -48,6 +48,15 @@ impl Lent {
         &mut self.memory[ROOM..ROOM + self.room]
     }
 
+    /// Takes MAIN's words out of a copy, to their places among the raw ones.
+    fn take_main(&mut self) -> [i32; 12] {
+        let mut rx = [0; 12];
+        for (raw, copy) in rx[10..].iter_mut().zip(self.dest()) {
+            *raw = std::mem::take(copy).wrapping_neg();
+        }
+        rx
+    }
+
     /// The lowest refusal that applies, or 0: a step's own first.
     fn number(&self, case: &Case) -> u32 {
         let mut named = self.slots.clone();
@@ -137,7 +146,7 @@ impl Met {
     }
 }
 
-/// The two sides of one call: their answers without words, whether all memory is the same, and the Rust's raw words.
+/// The two sides of one call: their answers, of the words MAIN's alone; whether all memory but these is the same; the Rust's raw words.
 pub struct Sides {
     pub port: Answer,
     pub rust: Answer,
@@ -148,7 +157,7 @@ pub struct Sides {
 pub fn call(port: &mut Board, rust: &mut rust::Analog, case: &Case, lent: &Lent, met: &mut Met) -> Sides {
     let (mut ours, mut theirs) = (lent.clone(), lent.clone());
     let answer = port.receive(case.frame, case.dac, case.fx, case.audio, case.ext, &lent.slots, ours.dest());
-    let port = Answer { number: answer.number, rx: [0; 12], mix: answer.mix, board: *port.state() };
+    let mut port = Answer { number: answer.number, rx: [0; 12], mix: answer.mix, board: *port.state() };
     let number = lent.number(case);
     met.note(lent, case, number);
     let mut raw = [0; 12];
@@ -156,7 +165,8 @@ pub fn call(port: &mut Board, rust: &mut rust::Analog, case: &Case, lent: &Lent,
         let step = sides::rust_step(rust, case);
         raw = step.rx;
         theirs.dest().copy_from_slice(&copied(&step.rx, &lent.slots));
-        Answer { rx: [0; 12], ..step }
+        port.rx = ours.take_main();
+        Answer { rx: theirs.take_main(), ..step }
     } else {
         Answer { number, rx: [0; 12], mix: Mix { l: 0.0, r: 0.0 }, board: Analog::of(rust) }
     };

@@ -67,7 +67,7 @@ impl Analog {
     pub fn of(b: &rust::Analog) -> Analog {
         let chain = |i: usize| {
             let c = &b.chains[i];
-            Chain { amp: seg(&c.amp), flt: seg(&c.flt), low: c.low, band: c.band, lp1: c.lp1 }
+            Chain { amp: seg(&c.amp), flt: seg(&c.flt), low: c.low, band: c.band, lp1: c.lp1, amp_r: seg(&c.amp_r) }
         };
         Analog {
             duals: std::array::from_fn(|i| DualOsc::of(&b.duals[i])),
@@ -81,7 +81,10 @@ impl Analog {
     }
 
     pub fn rust(&self) -> rust::Analog {
-        let chain = |c: &Chain| rust::Chain { amp: rust_seg(&c.amp), flt: rust_seg(&c.flt), low: c.low, band: c.band, lp1: c.lp1 };
+        let chain = |c: &Chain| {
+            let (amp, flt, amp_r) = (rust_seg(&c.amp), rust_seg(&c.flt), rust_seg(&c.amp_r));
+            rust::Chain { amp, flt, low: c.low, band: c.band, lp1: c.lp1, amp_r }
+        };
         rust::Analog {
             duals: std::array::from_fn(|i| self.duals[i].rust(i)),
             hat: self.hat.rust(),
@@ -143,6 +146,7 @@ fn fields<F: Fields>(f: &mut F, a: &Answer) {
             f.float("low", c.low);
             f.float("band", c.band);
             f.float("lp1", c.lp1);
+            seg_fields(f, "amp_r", &c.amp_r);
         });
     }
     part(f, "comp", None, |f| {

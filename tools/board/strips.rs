@@ -4,6 +4,28 @@ use crate::frames::{put, record};
 use crate::oracle::analog as rust;
 use crate::rng::Rng;
 
+/// The right amp records; the left ones are at AMP_ENV.
+pub const AMP_ENV_R: usize = rust::AMP_ENV + 64;
+
+/// What a right amp record does during a note.
+#[derive(Clone, Copy)]
+enum Way {
+    /// The left one's bytes.
+    Copy,
+    /// Levels, mode and rate of its own; it starts with the left one.
+    Own,
+    /// The left one's levels, mode and rate; it starts by itself.
+    Alone,
+    /// Zeros, sometimes after a start at 0.
+    Silent,
+}
+
+/// A right amp record that is not always the left one's copy.
+struct Pan {
+    rng: Rng,
+    way: Way,
+}
+
 /// One voice's chain: notes of attack, hold and decay.
 pub struct Strip {
     voice: usize,
@@ -14,6 +36,7 @@ pub struct Strip {
     /// Blocks that the start command lasts, and those until the decay.
     command: u32,
     hold: u32,
+    pan: Option<Pan>,
 }
 
 fn any_or(rng: &mut Rng, list: &[u32]) -> u32 {
@@ -29,17 +52,54 @@ pub fn set_filter(f: &mut [u8], v: usize, code: u8) {
     f[byte] = f[byte] & !(7 << low) | code << low;
 }
 
-impl Strip {
-    pub fn new(rng: &mut Rng, voice: usize, tempo: u32) -> Strip {
-        Strip { voice, tempo, wait: rng.below(4), since: 0, command: 1, hold: 1 }
+/// Exponents of a rate, slow where the notes are long.
+fn rates(rng: &mut Rng, tempo: u32) -> (i32, i32) {
+    if tempo > 2000 || rng.one_in(4) {
+        (11, 15)
+    } else {
+        (5, 12)
     }
+}
 
-    fn exps(&self, rng: &mut Rng) -> (i32, i32) {
-        if self.tempo > 2000 || rng.one_in(4) {
-            (11, 15)
-        } else {
-            (5, 12)
+impl Pan {
+    /// The right record of the block that comes so many after the note's first.
+    fn block(&mut self, f: &mut [u8], left: usize, right: usize, since: u32, tempo: u32) {
+        let (rng, often) = (&mut self.rng, if tempo > 2000 { 400 } else { 8 });
+        if since == 0 {
+            self.way = rng.pick(&[Way::Copy, Way::Copy, Way::Copy, Way::Own, Way::Alone, Way::Silent]);
         }
+        match self.way {
+            Way::Copy => f.copy_within(left..left + 8, right),
+            Way::Own => {
+                if since == 0 || rng.one_in(often) {
+                    let (start, target) = (rng.pick(&[0, 0, 20, 127]), rng.pick(&[127, 127, 64, 0, -128]));
+                    let (mode, exps) = (rng.pick(&[0xB, 0xB, 9, 0xF, 3, 3, 0]), rates(rng, tempo));
+                    record(rng, f, right, 0, start, target, mode, exps);
+                    if rng.one_in(3) {
+                        f[right + 5..right + 8].fill(0);
+                    }
+                }
+                f.copy_within(left..left + 2, right);
+            }
+            Way::Alone => {
+                f.copy_within(left..left + 8, right);
+                let first = if rng.one_in(often) { rng.pick(&[0x4000, 0x4000, 0x0001, 0x0100]) } else { 0 };
+                put(f, right, first);
+            }
+            Way::Silent if since == 0 && rng.one_in(2) => {
+                let (target, exps) = (rng.pick(&[0, -128]), rates(rng, tempo));
+                record(rng, f, right, 0x4000, 0, target, 0xB, exps);
+            }
+            Way::Silent => f[right..right + 8].fill(0),
+        }
+    }
+}
+
+impl Strip {
+    /// With `pan` the right amp record is not always the left one's copy.
+    pub fn new(rng: &mut Rng, voice: usize, tempo: u32, pan: Option<Rng>) -> Strip {
+        let pan = pan.map(|rng| Pan { rng, way: Way::Copy });
+        Strip { voice, tempo, wait: rng.below(4), since: 0, command: 1, hold: 1, pan }
     }
 
     fn knobs(&self, rng: &mut Rng, f: &mut [u8]) {
@@ -67,19 +127,22 @@ impl Strip {
         self.hold = self.command + rng.below(1 + self.wait / 2);
         self.knobs(rng, f);
         let (first, start, target) = (rng.pick(&[0x4000, 0x4000, 0x0001, 0x0100]), rng.pick(&[0, 0, 0, 20]), rng.pick(&[127, 127, 127, 90]));
-        let (mode, exps) = (rng.pick(&[0xB, 0xB, 9, 0xF]), self.exps(rng));
+        let (mode, exps) = (rng.pick(&[0xB, 0xB, 9, 0xF]), rates(rng, self.tempo));
         record(rng, f, amp, first, start, target, mode, exps);
         let depth = any_or(rng, &[0, 0x2000, 0x7fff, 0x8000, 0xe000]);
         let (start, target) = (rng.range(-5, 127), rng.pick(&[0, 0, 64, 127, -128]));
-        let (mode, exps) = (rng.pick(&[9, 0xF, 0xF, 0xB]), self.exps(rng));
+        let (mode, exps) = (rng.pick(&[9, 0xF, 0xF, 0xB]), rates(rng, self.tempo));
         record(rng, f, flt, depth, start, target, mode, exps);
         self.right(f);
     }
 
-    /// The right-hand copy of the amp record.
-    fn right(&self, f: &mut [u8]) {
-        let amp = rust::AMP_ENV + 8 * self.voice;
-        f.copy_within(amp..amp + 8, amp + 64);
+    /// The right amp record.
+    fn right(&mut self, f: &mut [u8]) {
+        let (left, right) = (rust::AMP_ENV + 8 * self.voice, AMP_ENV_R + 8 * self.voice);
+        match &mut self.pan {
+            Some(pan) => pan.block(f, left, right, self.since, self.tempo),
+            None => f.copy_within(left..left + 8, right),
+        }
     }
 
     fn set_mode(f: &mut [u8], o: usize, mode: u8) {
@@ -105,11 +168,11 @@ impl Strip {
             if rng.one_in(2) {
                 f[amp..amp + 8].fill(0);
             } else {
-                let (target, exps) = (rng.pick(&[-128, 0, 0]), self.exps(rng));
+                let (target, exps) = (rng.pick(&[-128, 0, 0]), rates(rng, self.tempo));
                 record(rng, f, amp, 0, 0, target, 0xB, exps);
             }
         } else if self.since == self.hold + 1 {
-            let (target, exps) = (rng.pick(&[-128, 0]), self.exps(rng));
+            let (target, exps) = (rng.pick(&[-128, 0]), rates(rng, self.tempo));
             record(rng, f, amp, 0, 0, target, 0xB, exps);
         }
         if self.since >= self.command && self.since < self.hold {

@@ -1,5 +1,6 @@
 //! The generator of the cases' own random numbers.
 
+#[derive(Clone)]
 pub struct Rng(u64);
 
 impl Rng {

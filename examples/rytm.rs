@@ -141,6 +141,8 @@ pub struct Analog {
     pub wobble: Wobble,
 }
 
+const _: () = assert!(std::mem::size_of::<Analog>() == 980);
+
 #[repr(C)]
 #[derive(Clone, Copy, Debug)]
 pub struct Answer {

@@ -65,7 +65,7 @@ typedef struct { float env; Sc sc; } Comp;
 
 typedef struct { float l, r; } Mix;
 
-/* The whole board. */
+/* The whole board: 980 bytes, 852 before its chains had a right amp. */
 typedef struct {
     DualOsc duals[3];
     Hat hat;
@@ -75,6 +75,9 @@ typedef struct {
     Comp comp;
     Wobble wobble;
 } Analog;
+
+/* Refused where a compiler lays the board out in another way than the library. */
+typedef char rytm_board_size[sizeof(Analog) == 980 ? 1 : -1];
 
 /* What a step gives. number: 0 done; refused by 1 a frame under 664 bytes, 2 under 24 FX bytes, 3 not 16 DAC words,
    4 a DAC word outside -8388608 to 8388607, 5 an input below -1, above 1 or not a number. rx: voices 0 to 7, audio in

@@ -12,52 +12,43 @@ use Rattle.sources.specs.Sources.{sound_of}
 use Rattle.chain.specs.Chain.{no_chain, chain_new}
 use Rattle.chain.specs.BeforeR5.{chain_new_before}
 use Rattle.bus.specs.Bus.{voices_of}
-use Rattle.bus.specs.BeforeR5.{voices_before, chains_then, Paired, BothAlike}
-use Rattle.bus.proofs.BeforeR5.{AsBefore, mix_as_before, voices_as_before}
+use Rattle.bus.specs.BeforeR5.{voices_before, earlier_chains, SameRecords}
+use Rattle.bus.proofs.BeforeR5.{AmpsAlike, AsBefore, mix_as_before, voices_as_before}
 use Rattle.board.specs.declared.Analog.{Analog}
 use Rattle.board.specs.declared.Inputs.{Inputs}
 use Rattle.board.specs.declared.refusals.Refusal.{Refusal}
 use Rattle.board.specs.Board.{fresh_of, taken_of, stepped_of, refused_of, refusal_of, accepted, answered_if, answer_of}
-use Rattle.board.specs.BeforeR5.{AnalogBefore, fresh_before, taken_before, stepped_before, refused_before, answered_before, answer_before, board_then, answer_then}
+use Rattle.board.specs.BeforeR5.{fresh_before, taken_before, stepped_before, refused_before, answered_before, answer_before, earlier_board, earlier_answer}
 
-pub fresh_as_before : (seed : ℕ) (ideal : Bool) → fresh_before seed ideal ≡ board_then (fresh_of seed ideal)
-unfolding fresh_before fresh_of chain_new_before chain_new chains_then
+pub fresh_as_before : (seed : ℕ) (ideal : Bool) → fresh_before seed ideal ≡ earlier_board (fresh_of seed ideal)
+unfolding fresh_before fresh_of chain_new_before chain_new earlier_chains
 fresh_as_before seed ideal = refl
 
-pub fresh_paired : (seed : ℕ) (ideal : Bool) → Paired (fresh_of seed ideal).chains
+pub fresh_alike : (seed : ℕ) (ideal : Bool) → AmpsAlike (fresh_of seed ideal).chains
 unfolding fresh_of chain_new
-fresh_paired seed ideal v = each 8 v
+fresh_alike seed ideal v = each 8 v
   where
     each : (n v : ℕ) → (get_or (replicate n chain_new) v no_chain).amp_r ≡ (get_or (replicate n chain_new) v no_chain).amp
     each zero v = refl
     each (suc n) zero = refl
     each (suc n) (suc v) = each n v
 
-module _ (b : Analog) (f : List ℕ) (dac : List ℤ) (fx : List ℕ) (x : Inputs) (p : Paired b.chains) where
-  voices : BothAlike f → let src = (sound_of f dac (taken_of b)).src in AsBefore (voices_of f dac src b.chains) (voices_before f dac src (chains_then b.chains))
-  voices alike = voices_as_before f dac (sound_of f dac (taken_of b)).src b.chains alike p
+module _ (b : Analog) (f : List ℕ) (dac : List ℤ) (fx : List ℕ) (x : Inputs) (p : AmpsAlike b.chains) where
+  voices : SameRecords f → let src = (sound_of f dac (taken_of b)).src in AsBefore (voices_of f dac src b.chains) (voices_before f dac src (earlier_chains b.chains))
+  voices same = voices_as_before f dac (sound_of f dac (taken_of b)).src b.chains same p
 
-  pub stepped_as_before : BothAlike f → stepped_before (board_then b) f dac fx x ≡ answer_then (stepped_of b f dac fx x)
+  pub stepped_as_before : SameRecords f → stepped_before (earlier_board b) f dac fx x ≡ earlier_answer (stepped_of b f dac fx x)
   unfolding stepped_before stepped_of taken_before taken_of
-  stepped_as_before alike = let v = voices alike in rw (v.same.chains, v.same.rx, mix_as_before _ _ v) refl
+  stepped_as_before same = let v = voices same in rw (v.same.chains, v.same.rx, mix_as_before _ _ v) refl
 
-  pub stepped_paired : BothAlike f → Paired (stepped_of b f dac fx x).board.chains
+  pub stepped_alike : SameRecords f → AmpsAlike (stepped_of b f dac fx x).board.chains
   unfolding stepped_of
-  stepped_paired alike = (voices alike).paired
+  stepped_alike same = (voices same).alike
 
-  pub answer_as_before : (T (accepted (refusal_of f dac fx x)) → BothAlike f) → answer_before (board_then b) f dac fx x ≡ answer_then (answer_of b f dac fx x)
+  pub answer_as_before : (T (accepted (refusal_of f dac fx x)) → SameRecords f) → answer_before (earlier_board b) f dac fx x ≡ earlier_answer (answer_of b f dac fx x)
   unfolding answer_before answer_of answered_before answered_if refused_before refused_of
-  answer_as_before alike = by (accepted (refusal_of f dac fx x)) (refusal_of f dac fx x) alike
+  answer_as_before same = by (accepted (refusal_of f dac fx x)) (refusal_of f dac fx x) same
     where
-      by : (t : Bool) (o : Option Refusal) → (T t → BothAlike f) → answered_before t o (board_then b) f dac fx x ≡ answer_then (answered_if t o b f dac fx x)
+      by : (t : Bool) (o : Option Refusal) → (T t → SameRecords f) → answered_before t o (earlier_board b) f dac fx x ≡ earlier_answer (answered_if t o b f dac fx x)
       by true o h = stepped_as_before (h tt)
       by false o h = refl
-
--- a step's refusal, on whatever boards
-pub refusal_as_before : (b : Analog) (e : AnalogBefore) (f : List ℕ) (dac : List ℤ) (fx : List ℕ) (x : Inputs) → (answer_of b f dac fx x).refusal ≡ (answer_before e f dac fx x).refusal
-unfolding answer_before answer_of answered_before answered_if refused_before refused_of stepped_before stepped_of
-refusal_as_before b e f dac fx x = by (accepted (refusal_of f dac fx x)) (refusal_of f dac fx x)
-  where
-    by : (t : Bool) (o : Option Refusal) → (answered_if t o b f dac fx x).refusal ≡ (answered_before t o e f dac fx x).refusal
-    by true o = refl
-    by false o = refl

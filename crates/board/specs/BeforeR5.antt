@@ -1,4 +1,5 @@
--- The board and its step as they were before R-5, on the chains of then. Definitions only.
+-- The board and its step as they were before R-5, on the chains of then. `x_before` is `x_of` of specs/Board.antt as it stood; what R-5 left alone is shared, and is
+-- today's. Definitions only.
 use Rattle.std.specs.Prelude.{ℕ, Bool, true, false, List, replicate, ℤ, pos, Option, None}
 use Rattle.float.specs.Consts.{k0}
 use Rattle.wobble.specs.declared.Wobble.{Wobble}
@@ -15,7 +16,7 @@ use Rattle.sources.specs.Sources.{sound_of}
 use Rattle.sources.specs.declared.Sources.{Sources}
 use Rattle.chain.specs.BeforeR5.{ChainBefore, chain_new_before}
 use Rattle.bus.specs.Bus.{master_of}
-use Rattle.bus.specs.BeforeR5.{voices_before, chains_then}
+use Rattle.bus.specs.BeforeR5.{voices_before, earlier_chains}
 use Rattle.comp.specs.declared.Comp.{Comp}
 use Rattle.comp.specs.Comp.{comp_new, process_of}
 use Rattle.stereo.specs.declared.Mix.{Mix}
@@ -77,9 +78,9 @@ answered_before false o b f dac fx x = refused_before b o
 unfoldable pub answer_before : AnalogBefore → List ℕ → List ℤ → List ℕ → Inputs → AnswerBefore
 answer_before b f dac fx x = let o = refusal_of f dac fx x in answered_before (accepted o) o b f dac fx x
 
--- the fields that a board had then, and an answer with such a board
-abbrev pub board_then : Analog → AnalogBefore
-board_then b = record { duals = b.duals; hat = b.hat; toms = b.toms; cym = b.cym; chains = chains_then b.chains; comp = b.comp; wobble = b.wobble }
+-- a board's fields of then, and an answer with these
+abbrev pub earlier_board : Analog → AnalogBefore
+earlier_board b = record { duals = b.duals; hat = b.hat; toms = b.toms; cym = b.cym; chains = earlier_chains b.chains; comp = b.comp; wobble = b.wobble }
 
-abbrev pub answer_then : Answer → AnswerBefore
-answer_then a = record { refusal = a.refusal; rx = a.rx; mix = a.mix; board = board_then a.board }
+abbrev pub earlier_answer : Answer → AnswerBefore
+earlier_answer a = record { refusal = a.refusal; rx = a.rx; mix = a.mix; board = earlier_board a.board }

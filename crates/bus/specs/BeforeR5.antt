@@ -1,4 +1,5 @@
--- The voices' chains, receive words and mix as they were before R-5: a chain's one sample went to both sides. Definitions only.
+-- The voices' chains, receive words and mix as they were before R-5: a chain's one sample went to both sides. `x_before` is `x_of` of specs/Bus.antt as it stood;
+-- what R-5 left alone is shared, and is today's. Definitions only.
 use Rattle.std.specs.Prelude.{ℕ, ◌≡◌, ◌+◌, ◌*◌, ◌<◌, cond, List, map, get_or, set, replicate, ℤ, pos, Float}
 use Rattle.float.specs.Consts.{k0, k0p5}
 use Rattle.float.specs.Ops.{◌⊕◌, ◌⊗◌}
@@ -7,9 +8,9 @@ use Rattle.frame.specs.Offsets.{VCA_L, VCA_R, AMP_ENV, AMP_ENV_R}
 use Rattle.frame.specs.Frame.{bytes_at, routed_off}
 use Rattle.lists.specs.Turns.{turns_of}
 use Rattle.chain.specs.declared.Chain.{Chain}
-use Rattle.chain.specs.Chain.{no_chain}
-use Rattle.chain.specs.BeforeR5.{ChainBefore, no_chain_before, process_before, chain_then}
+use Rattle.chain.specs.BeforeR5.{ChainBefore, no_chain_before, process_before, earlier_chain}
 use Rattle.stereo.specs.declared.Mix.{Mix}
+use Rattle.bus.specs.declared.Bus.{Bus}
 use Rattle.bus.specs.Bus.{input_of, contribution_of}
 
 pub record BusBefore : Type 0 where
@@ -28,14 +29,16 @@ turn_before f dac src v b =
 unfoldable pub voices_before : List ℕ → List ℤ → List Float → List ChainBefore → BusBefore
 voices_before f dac src chains = turns_of 8 (turn_before f dac src) (record { chains = chains; rx = replicate 12 (pos 0); mix = record { l = k0; r = k0 } })
 
--- the fields that the chains had then
-unfoldable pub chains_then : List Chain → List ChainBefore
-chains_then l = map chain_then l
+-- the chains' fields of then
+unfoldable pub earlier_chains : List Chain → List ChainBefore
+earlier_chains l = map earlier_chain l
 
--- both amps of each chain stand alike
-abbrev pub Paired : List Chain → Type 0
-Paired l = (v : ℕ) → (get_or l v no_chain).amp_r ≡ (get_or l v no_chain).amp
+-- receive words, left mix and the chains' earlier fields are those of then
+pub record LeftAsBefore (b : Bus) (e : BusBefore) : Type 0 where
+  pub chains : e.chains ≡ earlier_chains b.chains
+  pub rx : e.rx ≡ b.rx
+  pub left : e.mix.l ≡ b.mix.l
 
 -- both amp records of each voice are the same eight bytes
-abbrev pub BothAlike : List ℕ → Type 0
-BothAlike f = (v : ℕ) → v < 8 → bytes_at f (AMP_ENV_R + 8 * v) ≡ bytes_at f (AMP_ENV + 8 * v)
+abbrev pub SameRecords : List ℕ → Type 0
+SameRecords f = (v : ℕ) → v < 8 → bytes_at f (AMP_ENV_R + 8 * v) ≡ bytes_at f (AMP_ENV + 8 * v)

@@ -1,5 +1,5 @@
 -- The voices' chains, receive words and mix, and the master distortion, from `Analog::frame`. Definitions only.
-use Rattle.std.specs.Prelude.{ℕ, ◌+◌, ◌*◌, ◌≤◌, cond, List, get_or, set, replicate, ℤ, pos, nat_abs, Float}
+use Rattle.std.specs.Prelude.{ℕ, ◌≡◌, ◌+◌, ◌*◌, ◌≤◌, cond, List, get_or, set, replicate, ℤ, pos, nat_abs, Float}
 use Rattle.std.specs.Float.{binary32, nan}
 use Rattle.std.specs.Float.Ieee.{neg, lt, of_int}
 use Rattle.float.specs.Consts.{k0, k1, k15, k32767, k65536, k8388608, k0p5}
@@ -41,7 +41,12 @@ contribution_of f vca v y = y ⊗ word_f f (vca + 2 * v) ⊘ k32767
 unfoldable pub added_of : List ℕ → ℕ → Mix → Mix → Mix
 added_of f v m y = cond (routed_off f v) m (record { l = m.l ⊕ contribution_of f VCA_L v y.l; r = m.r ⊕ contribution_of f VCA_R v y.r })
 
--- voice v: its chain's output y × 0.5, the left one, becomes receive word v
+-- a side of the mix goes by that side's sample alone: it is the same whatever the other's is
+pub record EachSideAlone (f : List ℕ) (v : ℕ) (m y sum : Mix) : Type 0 where
+  pub left : (z : Float) → sum.l ≡ (added_of f v m (record { l = y.l; r = z })).l
+  pub right : (z : Float) → sum.r ≡ (added_of f v m (record { l = z; r = y.r })).r
+
+-- voice v: its chain's left output × 0.5 becomes receive word v
 unfoldable pub turn_of : List ℕ → List ℤ → List Float → ℕ → Bus → Bus
 turn_of f dac src v b =
     let o = process_of f v (input_of dac src v) (get_or b.chains v no_chain) in

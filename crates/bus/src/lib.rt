@@ -3,7 +3,8 @@
 
 ghost use Rattle.std.specs.Prelude.{◌≡◌, ◌≤◌, ◌<◌};
 ghost use Rattle.frame.specs.Offsets.{VCA_R};
-ghost use Rattle.bus.specs.Bus.{dac_f, return_of, contribution_of, added_of, voices_of, distort_of, master_of};
+ghost use Rattle.bus.specs.Bus.{dac_f, return_of, contribution_of, added_of, EachSideAlone, voices_of, distort_of, master_of};
+ghost use Rattle.bus.specs.BeforeR5.{LeftAsBefore, voices_before, earlier_chains};
 
 use chain::Chain;
 use frame::{DacWords, Frame};
@@ -45,7 +46,8 @@ fn contribution(f: &Frame, vca: usize, v: usize, y: f32) -> f32
 #[tactic(auto, unfolding(crate::specs::Bus::added_of))]
 fn added(f: &Frame, v: usize, m: Mix, y: Mix) -> Mix
     requires { v < 8 }
-    ensures { result ≡ added_of f.now v m y }
+    ensures value { result ≡ added_of f.now v m y }
+    ensures alone { EachSideAlone f.now v m y result }
 {
     if frame::routed_off(f, v) {
         return m;
@@ -67,7 +69,8 @@ pub struct Bus {
 // Voices 0 to 7 in turn: each one's source and its DAC word through its chain.
 #[tactic(auto, unfolding(lists::specs::Turns::turns_of, crate::specs::Bus::input_of, crate::specs::Bus::turn_of, crate::specs::Bus::voices_of))]
 pub fn voices(mut chains: [Chain; 8], f: &Frame, dac: &DacWords, src: [f32; 8]) -> Bus
-    ensures { result ≡ voices_of f.now dac.now src chains }
+    ensures value { result ≡ voices_of f.now dac.now src chains }
+    ensures left { LeftAsBefore result (voices_before f.now dac.now src (earlier_chains chains)) }
 {
     let mut rx: [i32; 12] = [0; 12];
     let mut mix = Mix { l: 0.0, r: 0.0 };

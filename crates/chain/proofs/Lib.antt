@@ -1,4 +1,4 @@
 -- Laws of `chain`.
-pub mod Sides
+pub mod Own
 pub mod Kept
 pub mod BeforeR5

@@ -1,4 +1,5 @@
--- A voice's chain as it was before R-5: one amp record, whose level went to both sides. Definitions only.
+-- A voice's chain as it was before R-5: one amp record, whose level went to both sides. `x_before` is `x_of` of specs/Chain.antt as it stood; what R-5 left alone is
+-- shared, and is today's. Definitions only.
 use Rattle.std.specs.Prelude.{ℕ, ◌+◌, ◌*◌, true, false, List, Float}
 use Rattle.std.specs.Float.{nan}
 use Rattle.float.specs.Consts.{k0}
@@ -9,7 +10,8 @@ use Rattle.frame.specs.declared.FltType.{FltType}
 use Rattle.envelope.specs.declared.SegEnv.{SegEnv}
 use Rattle.envelope.specs.Moves.{seg_of}
 use Rattle.chain.specs.declared.Chain.{Chain}
-use Rattle.chain.specs.Chain.{no_seg, drive_of, cutoff_of, filter_of, gain_of}
+use Rattle.chain.specs.declared.Filtered.{Filtered}
+use Rattle.chain.specs.Chain.{no_seg, drive_of, cutoff_of, res_of, coefs_of, multimode_of, lp1_of, pick_of, finite_or, gain_of}
 
 -- its fields, what the frame said to it, and what a sample of it gave
 pub record ChainBefore : Type 0 where
@@ -51,15 +53,23 @@ settings_before f v = record {
   rf = bytes_at f (FLT_ENV + 8 * v);
 }
 
+unfoldable pub filter_before : ChainBefore → SettingsBefore → Float → Float → Filtered
+filter_before c i fc x =
+    let res = res_of i.res in
+    let q = coefs_of fc res in
+    let s = multimode_of c.low c.band x q in
+    let lp1 = lp1_of c.lp1 x fc in
+    finite_or s lp1 (pick_of i.kind s lp1 x q.k res)
+
 unfoldable pub process_before : List ℕ → ℕ → Float → ChainBefore → ChainOutBefore
 process_before f v x c =
     let i = settings_before f v in
     let flt = seg_of false i.rf c.flt in
     let amp = seg_of true i.ra c.amp in
     let fc = cutoff_of i.frq i.depth flt.level in
-    let s = filter_of c.low c.band c.lp1 i.kind i.res fc (drive_of i.ovr x) in
+    let s = filter_before c i fc (drive_of i.ovr x) in
     record { chain = record { amp = amp; flt = flt; low = s.low; band = s.band; lp1 = s.lp1 }; y = s.y ⊗ gain_of amp.level }
 
--- the fields that a chain had then
-abbrev pub chain_then : Chain → ChainBefore
-chain_then c = record { amp = c.amp; flt = c.flt; low = c.low; band = c.band; lp1 = c.lp1 }
+-- a chain's fields of then
+abbrev pub earlier_chain : Chain → ChainBefore
+earlier_chain c = record { amp = c.amp; flt = c.flt; low = c.low; band = c.band; lp1 = c.lp1 }

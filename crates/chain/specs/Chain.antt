@@ -44,7 +44,7 @@ settings_of f v = record {
   res = word_f f (RES + 2 * v);
   kind = flt_type_of (flt_code f v);
   ra = bytes_at f (AMP_ENV + 8 * v);
-  rr = bytes_at f (AMP_ENV_R + 8 * v);
+  ra_r = bytes_at f (AMP_ENV_R + 8 * v);
   rf = bytes_at f (FLT_ENV + 8 * v);
 }
 
@@ -99,38 +99,39 @@ pick_of Pk s lp1 x k res = x ⊕ s.bp ⊗ k ⊗ k2 ⊗ res
 unfoldable pub finite_or : Multimode → Float → Float → Filtered
 finite_or s lp1 y = cond (finite y) (record { low = s.low; band = s.band; lp1 = lp1; y = y }) (record { low = k0; band = k0; lp1 = lp1; y = k0 })
 
--- the overdriven sample through the filter of the voice's type, with its resonance word and its cutoff, from the filter's three states
-unfoldable pub filter_of : Float → Float → Float → FltType → Float → Float → Float → Filtered
-filter_of low band lp1 kind word fc x =
-    let res = res_of word in
+-- the overdriven sample through the filter of the voice's type
+unfoldable pub filter_of : Chain → Settings → Float → Float → Filtered
+filter_of c i fc x =
+    let res = res_of i.res in
     let q = coefs_of fc res in
-    let s = multimode_of low band x q in
-    let p = lp1_of lp1 x fc in
-    finite_or s p (pick_of kind s p x q.k res)
+    let s = multimode_of c.low c.band x q in
+    let lp1 = lp1_of c.lp1 x fc in
+    finite_or s lp1 (pick_of i.kind s lp1 x q.k res)
 
 -- "the chain gain 0 at or below 0", else 2 ^ ((level - 127) / 16)
 unfoldable pub gain_of : Float → Float
 gain_of level = cond (le level k0) k0 (exp2_of ((level ⊖ k127) ⊘ LEVELS_PER_6DB))
 
--- `Chain::process`, and with it the right side: "the left mix and the receive word use the left level, the right mix the right one"
+-- `Chain::process`, and the right side: "the left mix and the receive word use the left level, the right mix the right one". The right amp ticks after the left
+-- one, last in the chain
 unfoldable pub process_of : List ℕ → ℕ → Float → Chain → ChainOut
 process_of f v x c =
     let i = settings_of f v in
     let flt = seg_of false i.rf c.flt in
-    let amp = seg_of true i.ra c.amp in
     let fc = cutoff_of i.frq i.depth flt.level in
-    let s = filter_of c.low c.band c.lp1 i.kind i.res fc (drive_of i.ovr x) in
-    let amp_r = seg_of true i.rr c.amp_r in
+    let s = filter_of c i fc (drive_of i.ovr x) in
+    let amp = seg_of true i.ra c.amp in
+    let amp_r = seg_of true i.ra_r c.amp_r in
     record {
       chain = record { amp = amp; flt = flt; low = s.low; band = s.band; lp1 = s.lp1; amp_r = amp_r };
       y = record { l = s.y ⊗ gain_of amp.level; r = s.y ⊗ gain_of amp_r.level };
     }
 
--- each envelope of a chain sees its own record, the right amp "with the same rule as the left"; and one filtered sample goes to each side by that side's level
-pub record ByItsSide (f : List ℕ) (v : ℕ) (old : Chain) (o : ChainOut) : Type 0 where
+-- each envelope of a chain sees its own record, the right amp "with the same rule as the left"; and some one sample goes to each side by that side's level
+pub record EachItsOwn (f : List ℕ) (v : ℕ) (old : Chain) (o : ChainOut) : Type 0 where
   pub amp : o.chain.amp ≡ seg_of true (bytes_at f (AMP_ENV + 8 * v)) old.amp
   pub amp_r : o.chain.amp_r ≡ seg_of true (bytes_at f (AMP_ENV_R + 8 * v)) old.amp_r
   pub flt : o.chain.flt ≡ seg_of false (bytes_at f (FLT_ENV + 8 * v)) old.flt
-  pub filtered : Float
-  pub left : o.y.l ≡ filtered ⊗ gain_of o.chain.amp.level
-  pub right : o.y.r ≡ filtered ⊗ gain_of o.chain.amp_r.level
+  pub sample : Float
+  pub left : o.y.l ≡ sample ⊗ gain_of o.chain.amp.level
+  pub right : o.y.r ≡ sample ⊗ gain_of o.chain.amp_r.level

@@ -1,3 +1,3 @@
--- The definitions that the contracts of `chain` cite.
+-- The definitions that the contracts of `chain` cite, and those of before R-5.
 pub mod Chain
 pub mod BeforeR5

@@ -2,7 +2,7 @@
 #![tactic(auto)]
 
 ghost use Rattle.std.specs.Prelude.{◌≡◌, ◌<◌};
-ghost use Rattle.chain.specs.Chain.{ByItsSide, chain_new, drive_of, cutoff_of, res_of, coefs_of, multimode_of, lp1_of, pick_of, finite_or, settings_of, filter_of, process_of};
+ghost use Rattle.chain.specs.Chain.{EachItsOwn, chain_new, drive_of, cutoff_of, res_of, coefs_of, multimode_of, lp1_of, pick_of, finite_or, settings_of, filter_of, process_of};
 
 use envelope::SegEnv;
 use frame::{FltType, Frame};
@@ -40,7 +40,7 @@ pub struct Settings {
     pub kind: FltType,
     // The records of the amp, left and right, and of the filter.
     pub ra: [u8; 8],
-    pub rr: [u8; 8],
+    pub ra_r: [u8; 8],
     pub rf: [u8; 8],
 }
 
@@ -58,7 +58,7 @@ impl Settings {
             res: frame::word_f32(bytes, frame::RES + 2 * v),
             kind: FltType::from(frame::flt_code(f, v)),
             ra: frame::bytes(bytes, frame::AMP_ENV + 8 * v),
-            rr: frame::bytes(bytes, frame::AMP_ENV_R + 8 * v),
+            ra_r: frame::bytes(bytes, frame::AMP_ENV_R + 8 * v),
             rf: frame::bytes(bytes, frame::FLT_ENV + 8 * v),
         }
     }
@@ -193,7 +193,7 @@ fn replace(s: Multimode, lp1: f32, y: f32) -> Filtered
 // The filter of a chain with cutoff fc, on the driven sample x.
 #[tactic(auto, unfolding(crate::specs::Chain::filter_of, crate::specs::Chain::lp1_of))]
 fn run_filter(c: Chain, i: Settings, fc: f32, x: f32) -> Filtered
-    ensures { result ≡ filter_of c.low c.band c.lp1 i.kind i.res fc x }
+    ensures { result ≡ filter_of c i fc x }
 {
     let res = resonance(i.res);
     let q = coefficients(fc, res);
@@ -232,14 +232,14 @@ impl Chain {
     pub fn process(self, f: &Frame, v: usize, x: f32) -> ChainOut
         requires { v < 8 }
         ensures value { result ≡ process_of f.now v x self }
-        ensures sides { ByItsSide f.now v self result }
+        ensures own { EachItsOwn f.now v self result }
     {
         let i = Settings::read(f, v);
         let flt = self.flt.filter(i.rf);
-        let amp = self.amp.amp(i.ra);
         let fc = cutoff(i.frq, i.depth, flt.level);
         let s = run_filter(self, i, fc, overdrive(i.ovr, x));
-        let amp_r = self.amp_r.amp(i.rr);
+        let amp = self.amp.amp(i.ra);
+        let amp_r = self.amp_r.amp(i.ra_r);
         ChainOut {
             chain: Chain {
                 amp,

@@ -56,10 +56,11 @@ SWITCHES = 160
 abbrev pub ROUTE : ℕ
 ROUTE = 166
 
--- "Chain amp (168+8v)": the left one's record, and the right one's, "the second amp record .. at 232+8v"
+-- "Chain amp (168+8v)": the left amp's record
 abbrev pub AMP_ENV : ℕ
 AMP_ENV = 168
 
+-- "the second amp record, which document 000 places at 232+8v": the right amp's
 abbrev pub AMP_ENV_R : ℕ
 AMP_ENV_R = 232
 

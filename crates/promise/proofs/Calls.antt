@@ -17,7 +17,7 @@ use Rattle.receive.specs.Receive as Receive
 use Rattle.receive.specs.Receive.{received_if, written_if, received_of, destination_of, Receives}
 use Rattle.receive.proofs.Told.{step_taken}
 use borrow.Author.Tests.{eqb-true}
-use Rattle.promise.specs.Calls.{Given, answer, Call, step, receive, given_of, outcome_of, taken, written_of, next_of, mix_of, AnswerOf, StepAnswer, ReceiveAnswer}
+use Rattle.promise.specs.Calls.{Given, answer, Call, step, receive, given_of, outcome_of, taken, written_of, next_of, AnswerOf, StepAnswer, ReceiveAnswer}
 
 -- the board that an accepted call steps to
 abbrev pub stepped_by : Analog → Given → Analog
@@ -36,16 +36,16 @@ way b k = by (taken k) refl
     by false e = left e (ap (λ (c : Bool). cond c (stepped_by b (given_of k)) b) e)
 
 -- a step's answer is that of its call
-pub step_answer : (b : Analog) (g : Given) → AnswerOf b (step g) (answer b g).refusal (answer b g).rx (answer b g).mix (answer b g).board
-unfolding answer_of answered_if refused_of stepped_of next_of mix_of
+pub step_answer : (b : Analog) (g : Given) → AnswerOf b (step g) (answer b g).refusal (answer b g).rx (answer b g).board
+unfolding answer_of answered_if refused_of stepped_of next_of
 step_answer b g = by (taken (step g)) refl
   where
     o : Option Refusal
     o = refusal_of g.frame g.dac g.fx g.inputs
 
-    by : (t : Bool) → t ≡ taken (step g) → AnswerOf b (step g) (answered_if t o b g.frame g.dac g.fx g.inputs).refusal (answer b g).rx (answered_if t o b g.frame g.dac g.fx g.inputs).mix (answered_if t o b g.frame g.dac g.fx g.inputs).board
-    by true e = record { number = sym (eqb-true _ _ (sym e)); words = refl; mixed = rw (← e); board = rw (← e) }
-    by false e = record { number = refl; words = refl; mixed = rw (← e); board = rw (← e) }
+    by : (t : Bool) → t ≡ taken (step g) → AnswerOf b (step g) (answered_if t o b g.frame g.dac g.fx g.inputs).refusal (answer b g).rx (answered_if t o b g.frame g.dac g.fx g.inputs).board
+    by true e = record { number = sym (eqb-true _ _ (sym e)); words = refl; board = rw (← e) }
+    by false e = record { number = refl; words = refl; board = rw (← e) }
 
 pub step_answers : (b : Analog) (f : List ℕ) (dac : List ℤ) (fx : List ℕ) (x : Inputs) (a : Answer) → Bytes f → a ≡ answer_of b f dac fx x → StepAnswer b f dac fx x a
 step_answers b f dac fx x a B e =
@@ -54,8 +54,8 @@ step_answers b f dac fx x a B e =
 
 -- and so is that of a step whose words are copied
 receive_answer : (b : Analog) (g : Given) (slots : List ℕ) (dest : List ℤ) → let o = outcome_of (receive g slots dest) in let r = received_if o b (answer b g) in
-    AnswerOf b (receive g slots dest) r.refusal (written_of r.refusal (written_if o slots (answer b g) dest)) r.mix r.board
-unfolding received_if Receive.refused_of written_if written_of next_of mix_of
+    AnswerOf b (receive g slots dest) r.refusal (written_of r.refusal (written_if o slots (answer b g) dest)) r.board
+unfolding received_if Receive.refused_of written_if written_of next_of
 receive_answer b g slots dest = by (outcome_of k) refl
   where
     k : Call
@@ -64,14 +64,13 @@ receive_answer b g slots dest = by (outcome_of k) refl
     a : Answer
     a = answer b g
 
-    by : (o : Option Refusal) → o ≡ outcome_of k → AnswerOf b k (received_if o b a).refusal (written_of (received_if o b a).refusal (written_if o slots a dest)) (received_if o b a).mix (received_if o b a).board
+    by : (o : Option Refusal) → o ≡ outcome_of k → AnswerOf b k (received_if o b a).refusal (written_of (received_if o b a).refusal (written_if o slots a dest)) (received_if o b a).board
     by None e = record {
       number = ap number_of e;
       words = rw (← e) refl;
-      mixed = rw (← e) (ap (λ (y : Answer). y.mix) (step_taken b g.frame g.dac g.fx g.inputs slots dest e));
       board = rw (← e) (ap (λ (y : Answer). y.board) (step_taken b g.frame g.dac g.fx g.inputs slots dest e));
     }
-    by (Some o) e = record { number = ap number_of e; words = rw (← e) refl; mixed = rw (← e, not_accepted o) refl; board = rw (← e, not_accepted o) refl }
+    by (Some o) e = record { number = ap number_of e; words = rw (← e) refl; board = rw (← e, not_accepted o) refl }
 
 pub receive_answers : (b : Analog) (f : List ℕ) (dac : List ℤ) (fx : List ℕ) (x : Inputs) (slots : List ℕ) (dest : List ℤ) (r : Received) (after : List ℤ) → Bytes f → Receives b f dac fx x slots dest r after → ReceiveAnswer b f dac fx x slots dest r after
 unfolding received_of destination_of

@@ -37,9 +37,13 @@ pub record Counted {A : Type 0} (n : ℕ) (all : List A) (place : A → ℕ) : T
   pub has : (o a : A) → get_or all (place a) o ≡ a
   pub once : map place all ≡ up_from 0 n
 
+many : length levels ≡ 42
+unfolding levels below
+many = refl
+
 pub levels_42 : Counted 42 levels place_of
 unfolding levels below up_from
-levels_42 = record { count = refl; has = has; once = refl }
+levels_42 = record { count = many; has = has; once = refl }
   where
     -- what follows each family
     f7 : List Which

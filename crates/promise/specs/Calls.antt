@@ -1,8 +1,6 @@
 -- Calls, and lists of them from board to board. Definitions only.
 use Rattle.std.specs.Prelude.{ℕ, ◌^◌, ◌<◌, ◌≡◌, Bool, cond, List, [], ◌∷◌, length, ℤ, Option, Some, None}
-use Rattle.float.specs.Consts.{k0}
 use Rattle.frame.specs.Frame.{Bytes}
-use Rattle.stereo.specs.declared.Mix.{Mix}
 use Rattle.board.specs.declared.Analog.{Analog}
 use Rattle.board.specs.declared.Answer.{Answer}
 use Rattle.board.specs.declared.Inputs.{Inputs}
@@ -59,26 +57,21 @@ taken k = accepted (outcome_of k)
 unfoldable pub next_of : Analog → Call → Analog
 next_of b k = let g = given_of k in cond (taken k) (stepped_of b g.frame g.dac g.fx g.inputs).board b
 
--- its mix is that step's, or 0 and 0
-unfoldable pub mix_of : Analog → Call → Mix
-mix_of b k = let g = given_of k in cond (taken k) (stepped_of b g.frame g.dac g.fx g.inputs).mix (record { l = k0; r = k0 })
-
--- an answer with this refusal or none, these words, this mix and this board is call k's
-pub record AnswerOf (b : Analog) (k : Call) (o : Option Refusal) (rx : List ℤ) (mix : Mix) (next : Analog) : Type 0 where
+-- an answer with this refusal or none, these words and this board is call k's
+pub record AnswerOf (b : Analog) (k : Call) (o : Option Refusal) (rx : List ℤ) (next : Analog) : Type 0 where
   pub number : number_of o ≡ number_of (outcome_of k)
   pub words : rx ≡ words_of b k
-  pub mixed : mix ≡ mix_of b k
   pub board : next ≡ next_of b k
 
 -- a step's answer to any arguments is that of a call: what a caller lends as a frame is a list of bytes
 pub record StepAnswer (b : Analog) (f : List ℕ) (dac : List ℤ) (fx : List ℕ) (x : Inputs) (a : Answer) : Type 0 where
   pub bytes : Bytes f
-  pub call : AnswerOf b (step (record { frame = f; bytes = bytes; dac = dac; fx = fx; inputs = x })) a.refusal a.rx a.mix a.board
+  pub call : AnswerOf b (step (record { frame = f; bytes = bytes; dac = dac; fx = fx; inputs = x })) a.refusal a.rx a.board
 
 -- and so is the answer of a step whose words are copied into a destination that has the words `after` then
 pub record ReceiveAnswer (b : Analog) (f : List ℕ) (dac : List ℤ) (fx : List ℕ) (x : Inputs) (slots : List ℕ) (dest : List ℤ) (r : Received) (after : List ℤ) : Type 0 where
   pub bytes : Bytes f
-  pub call : AnswerOf b (receive (record { frame = f; bytes = bytes; dac = dac; fx = fx; inputs = x }) slots dest) r.refusal (written_of r.refusal after) r.mix r.board
+  pub call : AnswerOf b (receive (record { frame = f; bytes = bytes; dac = dac; fx = fx; inputs = x }) slots dest) r.refusal (written_of r.refusal after) r.board
 
 -- ---- lists
 -- "each step takes the board that the one before it returned"

@@ -22,7 +22,8 @@ pub data Which : Type 0 where
   pitch amp amp2 : (d : ℕ) → d < 3 → Which
   hat : Which
   cymbal : (r : ℕ) → r < 8 → Which
-  chain_amp chain_filter chain_amp_r : (v : ℕ) → v < 8 → Which
+  chain_amp chain_filter : (v : ℕ) → v < 8 → Which
+  chain_amp_r : (v : ℕ) → v < 8 → Which
 
 unfoldable pub levels : List Which
 levels = below 3 pitch ++ (below 3 amp ++ (below 3 amp2 ++ (below 1 (λ i h. hat) ++ (below 8 cymbal ++ (below 8 chain_amp ++ (below 8 chain_filter ++ below 8 chain_amp_r))))))

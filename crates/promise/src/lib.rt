@@ -6,14 +6,14 @@ ghost use Rattle.board.specs.Board.{fresh_of, answer_of};
 ghost use Rattle.receive.specs.Receive.{Receives};
 ghost use Rattle.promise.specs.Calls.{StepAnswer, ReceiveAnswer};
 ghost use Rattle.promise.specs.Promise.{Promised};
+ghost use Rattle.promise.specs.BeforeR5.{SameRecordsSameAnswers};
 
 use board::{Analog, Answer, Inputs};
 use receive::Received;
 
 // A fresh board.
-#[tactic(auto, using(crate::proofs::Whole::fresh_promised))]
 pub fn fresh(seed: u32, ideal: bool) -> Analog
-    ensures { (result ≡ fresh_of seed ideal) × Promised result }
+    ensures { (result ≡ fresh_of seed ideal) × Promised result × SameRecordsSameAnswers seed ideal }
 {
     board::fresh(seed, ideal)
 }

@@ -1,2 +1,3 @@
 -- Laws of `receive`.
 pub mod Told
+pub mod BeforeR5

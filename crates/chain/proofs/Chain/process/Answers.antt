@@ -2,13 +2,13 @@
 use mathlib.Core.Path.{sym, subst}
 use borrow.Author.Rules.{rules}
 use Rattle.chain.specs.declared.ChainOut.{ChainOut}
-use Rattle.chain.specs.Chain.{gain_of, process_of, ByItsSide}
-use Rattle.chain.proofs.Sides.{by_its_side}
+use Rattle.chain.specs.Chain.{gain_of, process_of, EachItsOwn}
+use Rattle.chain.proofs.Own.{each_its_own}
 use Rattle.chain.proofs.Chain.process.Goals as goal
 
 pub returns-clause-value : goal.returns-clause-value
 unfolding process_of gain_of
 returns-clause-value c = search rules
 
-pub returns-clause-sides : goal.returns-clause-sides
-returns-clause-sides c = let a = c.args in subst (λ (o : ChainOut). ByItsSide a.f.now a.v a.self o) (sym (returns-clause-value c)) (by_its_side a.f.now a.v a.x a.self)
+pub returns-clause-own : goal.returns-clause-own
+returns-clause-own c = let a = c.args in subst (λ (o : ChainOut). EachItsOwn a.f.now a.v a.self o) (sym (returns-clause-value c)) (each_its_own a.f.now a.v a.x a.self)

@@ -10,7 +10,8 @@
 //!     --record FILE       writes a recording of N generated steps of all styles (at most 4096), and compares nothing
 //!
 //! What a request changes is counted by itself where the oracle (tools/oracle) is without it: of R-3 the FM phases, which have to be all that it met; of R-5 the
-//! steps whose mix differs, each of which has to be one with a chain whose sides are apart. A step that differs in anything else is a difference.
+//! steps whose mix differs, each of which has to be one with a chain whose sides are apart; of generated steps there have to be some. A step that differs in
+//! anything else is a difference.
 //!
 //! Links board_c curves_c.
 
@@ -193,7 +194,7 @@ impl Report {
         theirs
     }
 
-    fn end(&self, coverage: bool, copies: bool) -> ! {
+    fn end(&self, coverage: bool, copies: bool, generated: bool) -> ! {
         if coverage {
             self.met.print();
             if copies {
@@ -216,7 +217,8 @@ impl Report {
         }
         let these = if oracle::R3 && oracle::R5 { "" } else { " but these" };
         println!("compared {} steps: {} differences{these}", self.steps, self.differ);
-        std::process::exit((self.differ != 0 || !oracle::R3 && self.phases != ones) as i32);
+        let unheard = !oracle::R5 && generated && apart > 0 && self.mixes == 0;
+        std::process::exit((self.differ != 0 || !oracle::R3 && self.phases != ones || unheard) as i32);
     }
 }
 
@@ -343,10 +345,11 @@ fn main() {
     }
     println!("{}", oracle::ABOUT);
     let mut report = Report::new();
+    let generate = file.is_none();
     match file {
         Some(file) => recorded(&mut report, &file, print),
         None if print => stop("--print needs --recording"),
         None => generated(&mut report, steps, seed, copies),
     }
-    report.end(!print, copies);
+    report.end(!print, copies, generate);
 }

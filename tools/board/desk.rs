@@ -54,12 +54,12 @@ impl Desk {
             fx.iter_mut().for_each(|b| *b = rng.word() as u8);
             (0..8).for_each(|_| compressor(rng, &mut fx, true));
         }
-        // In half of the patterns the right amp records are copies throughout. What the others do is drawn apart: nothing else depends on it.
-        let mut sides = Rng::new(rng.clone().next());
-        let pans = sides.one_in(2);
+        // In half of the patterns the strips write the right amp records as copies. What they write in the others is drawn apart: nothing else depends on it.
+        let mut apart = Rng::new(rng.clone().next());
+        let pans = apart.one_in(2);
         Desk {
             frames,
-            strips: (0..8).map(|v| Strip::new(rng, v, tempo, pans.then(|| Rng::new(sides.next())))).collect(),
+            strips: (0..8).map(|v| Strip::new(rng, v, tempo, pans.then(|| Rng::new(apart.next())))).collect(),
             style,
             spoil: rng.pick(&[None, Some(3), Some(12), Some(60), Some(60)]),
             wide_fx,

@@ -8,14 +8,27 @@ use crate::state::State;
 use crate::strips::AMP_ENV_R;
 
 macro_rules! counts {
-    ($($id:ident $name:literal,)*) => {
+    ($kind:ident $names:ident: $($id:ident $name:literal,)*) => {
         #[derive(Clone, Copy)]
-        pub enum Count { $($id,)* }
-        const NAMES: &[&str] = &[$($name,)*];
+        pub enum $kind { $($id,)* }
+        const $names: &[&str] = &[$($name,)*];
     };
 }
 
-counts! {
+counts! { Hold HOLDS:
+    Rate3 "mode 3, rate 0",
+    At3 "mode 3, at the target",
+    Near3 "mode 3, nearer than 0.001 and short of it",
+    Release3 "mode 3 releases",
+    Rate0 "mode 0, rate 0",
+    Keep0 "mode 0 keeps a hold",
+    Run0 "mode 0 keeps running",
+    Ramp "9, B, F release",
+    KeepOther "other modes keep a hold",
+    RunOther "other modes keep running",
+}
+
+counts! { Count NAMES:
     Fresh0 "fresh boards: seed 0",
     Fresh1 "fresh boards: seed 1",
     FreshDefault "fresh boards: default seed",
@@ -108,20 +121,8 @@ const GROUPS: [(&str, usize, &[(&str, u8, u8)]); 5] = [
     ),
 ];
 
-/// The envelopes of a chain, and what an envelope's mode does with its hold.
+/// The envelopes of a chain.
 const ENVELOPES: [&str; 3] = ["left amp", "right amp", "filter"];
-const HOLDS: [&str; 10] = [
-    "mode 3, rate 0",
-    "mode 3, at the target",
-    "mode 3, nearer than 0.001 and short of it",
-    "mode 3 releases",
-    "mode 0, rate 0",
-    "mode 0 keeps a hold",
-    "mode 0 keeps running",
-    "9, B, F release",
-    "other modes keep a hold",
-    "other modes keep running",
-];
 
 const FILTERS: [&str; 8] = ["0 LP2", "1 BP", "2 HP1", "3 PK", "4 HP2", "5 BS", "6 LP1", "7 LP2"];
 
@@ -131,7 +132,7 @@ pub struct Met {
     answers: [u64; 6],
     sources: Coverage,
     /// By envelope.
-    holds: [[u64; 10]; 3],
+    holds: [[u64; HOLDS.len()]; 3],
     filter: [[u64; 8]; 8],
     routed_off: [u64; 8],
     groups: [[u64; 10]; 5],
@@ -139,7 +140,7 @@ pub struct Met {
 
 impl Met {
     pub fn new() -> Met {
-        let (holds, filter) = ([[0; 10]; 3], [[0; 8]; 8]);
+        let (holds, filter) = ([[0; HOLDS.len()]; 3], [[0; 8]; 8]);
         Met { count: [0; NAMES.len()], answers: [0; 6], sources: Coverage::new(), holds, filter, routed_off: [0; 8], groups: [[0; 10]; 5] }
     }
 
@@ -274,25 +275,26 @@ impl Met {
         self.add(NanPole, !a.lp1.is_finite());
     }
 
-    /// Which of HOLDS an envelope met.
+    /// Which hold rule an envelope met.
     fn hold(&mut self, envelope: usize, e: &SegEnv, r: &[u8], starts: bool) {
+        use Hold::*;
         let record = rust::Record::parse(r);
         let still = u32::from_be_bytes(r[4..].try_into().unwrap()) & 0xf_ffff == 0;
         let level = if starts { record.start } else { e.level };
         let away = (record.target - level).abs();
         let rule = match (r[4] >> 4, still, e.hold) {
-            (3, true, _) => 0,
-            (3, ..) if away == 0.0 => 1,
-            (3, ..) if away < 1e-3 => 2,
-            (3, ..) => 3,
-            (0, true, _) => 4,
-            (0, _, true) => 5,
-            (0, ..) => 6,
-            (9 | 0xB | 0xF, ..) => 7,
-            (_, _, true) => 8,
-            _ => 9,
+            (3, true, _) => Rate3,
+            (3, ..) if away == 0.0 => At3,
+            (3, ..) if away < 1e-3 => Near3,
+            (3, ..) => Release3,
+            (0, true, _) => Rate0,
+            (0, _, true) => Keep0,
+            (0, ..) => Run0,
+            (9 | 0xB | 0xF, ..) => Ramp,
+            (_, _, true) => KeepOther,
+            _ => RunOther,
         };
-        self.holds[envelope][rule] += 1;
+        self.holds[envelope][rule as usize] += 1;
     }
 
     fn mix(&mut self, before: &Analog, case: &Case, answer: &Answer) {

@@ -62,7 +62,7 @@ fn rates(rng: &mut Rng, tempo: u32) -> (i32, i32) {
 }
 
 impl Pan {
-    /// The right record of the block that comes so many after the note's first.
+    /// Writes the right record, `since` blocks after the note began.
     fn block(&mut self, f: &mut [u8], left: usize, right: usize, since: u32, tempo: u32) {
         let (rng, often) = (&mut self.rng, if tempo > 2000 { 400 } else { 8 });
         if since == 0 {

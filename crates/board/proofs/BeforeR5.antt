@@ -1,5 +1,5 @@
--- A step beside the one before R-5: where both amps of each chain stand alike and both records of each voice are the same bytes, it answers as that one, and the
--- amps stand alike after it. A fresh board is that one's, and its amps stand alike. Assumes nothing.
+-- A step beside the one before R-5: where both amps of each chain stand alike and both records of each voice are the same bytes, it answers as that one. A fresh
+-- board is that one's, and its amps stand alike. Assumes nothing.
 use Prim.Native.Nat.{ℕ, zero, suc}
 use mathlib.Core.Path.{◌≡◌, refl}
 use mathlib.Core.Bool.{Bool, true, false}
@@ -11,9 +11,8 @@ use Rattle.std.specs.Prelude.{Option}
 use Rattle.sources.specs.Sources.{sound_of}
 use Rattle.chain.specs.Chain.{no_chain, chain_new}
 use Rattle.chain.specs.BeforeR5.{chain_new_before}
-use Rattle.bus.specs.Bus.{voices_of}
-use Rattle.bus.specs.BeforeR5.{voices_before, earlier_chains, SameRecords}
-use Rattle.bus.proofs.BeforeR5.{AmpsAlike, AsBefore, mix_as_before, voices_as_before}
+use Rattle.bus.specs.BeforeR5.{earlier_chains, SameRecords}
+use Rattle.bus.proofs.BeforeR5.{AmpsAlike, voices_as_before}
 use Rattle.board.specs.declared.Analog.{Analog}
 use Rattle.board.specs.declared.Inputs.{Inputs}
 use Rattle.board.specs.declared.refusals.Refusal.{Refusal}
@@ -33,17 +32,10 @@ fresh_alike seed ideal v = each 8 v
     each (suc n) zero = refl
     each (suc n) (suc v) = each n v
 
-module _ (b : Analog) (f : List ℕ) (dac : List ℤ) (fx : List ℕ) (x : Inputs) (p : AmpsAlike b.chains) where
-  voices : SameRecords f → let src = (sound_of f dac (taken_of b)).src in AsBefore (voices_of f dac src b.chains) (voices_before f dac src (earlier_chains b.chains))
-  voices same = voices_as_before f dac (sound_of f dac (taken_of b)).src b.chains same p
-
+module _ (b : Analog) (f : List ℕ) (dac : List ℤ) (fx : List ℕ) (x : Inputs) (a : AmpsAlike b.chains) where
   pub stepped_as_before : SameRecords f → stepped_before (earlier_board b) f dac fx x ≡ earlier_answer (stepped_of b f dac fx x)
   unfolding stepped_before stepped_of taken_before taken_of
-  stepped_as_before same = let v = voices same in rw (v.same.chains, v.same.rx, mix_as_before _ _ v) refl
-
-  pub stepped_alike : SameRecords f → AmpsAlike (stepped_of b f dac fx x).board.chains
-  unfolding stepped_of
-  stepped_alike same = (voices same).alike
+  stepped_as_before same = rw (voices_as_before f dac (sound_of f dac (taken_of b)).src b.chains same a) refl
 
   pub answer_as_before : (T (accepted (refusal_of f dac fx x)) → SameRecords f) → answer_before (earlier_board b) f dac fx x ≡ earlier_answer (answer_of b f dac fx x)
   unfolding answer_before answer_of answered_before answered_if refused_before refused_of

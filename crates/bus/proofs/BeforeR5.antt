@@ -28,16 +28,19 @@ use Rattle.bus.specs.BeforeR5.{BusBefore, added_before, turn_before, voices_befo
 abbrev pub AmpsAlike : List Chain → Type 0
 AmpsAlike l = (v : ℕ) → (get_or l v no_chain).amp_r ≡ (get_or l v no_chain).amp
 
-pub record AsBefore (b : Bus) (e : BusBefore) : Type 0 where
-  pub same : LeftAsBefore b e
-  pub right : e.mix.r ≡ b.mix.r
-  pub alike : AmpsAlike b.chains
+record AsBefore (b : Bus) (e : BusBefore) : Type 0 where
+  same : LeftAsBefore b e
+  right : e.mix.r ≡ b.mix.r
+  alike : AmpsAlike b.chains
 
 abbrev both : Float → Float → Mix
 both l r = record { l = l; r = r }
 
-pub mix_as_before : (b : Bus) (e : BusBefore) → AsBefore b e → e.mix ≡ b.mix
-mix_as_before b e h = ap₂ both h.same.left h.right
+abbrev bus : List ChainBefore → List ℤ → Mix → BusBefore
+bus chains rx mix = record { chains = chains; rx = rx; mix = mix }
+
+whole : (b : Bus) (e : BusBefore) → AsBefore b e → e ≡ bus (earlier_chains b.chains) b.rx b.mix
+whole b e h = ap₂ (λ (l : List ChainBefore) (w : List ℤ). bus l w e.mix) h.same.chains h.same.rx ∙ ap (bus (earlier_chains b.chains) b.rx) (ap₂ both h.same.left h.right)
 
 module _ (f : List ℕ) (dac : List ℤ) (src : List Float) where
   -- voice v's sample, and the one before R-5
@@ -83,6 +86,12 @@ module _ (f : List ℕ) (dac : List ℤ) (src : List Float) where
     unfolding voices_of voices_before
     voices_left = turns_match LeftAsBefore 8 (turn_of f dac src) (turn_before f dac src) _ _ (λ v b e k h. turn_left v b e h) (record { chains = refl; rx = refl; left = refl })
 
-    pub voices_as_before : SameRecords f → AmpsAlike chains → AsBefore (voices_of f dac src chains) (voices_before f dac src (earlier_chains chains))
+    both_ways : SameRecords f → AmpsAlike chains → AsBefore (voices_of f dac src chains) (voices_before f dac src (earlier_chains chains))
     unfolding voices_of voices_before
-    voices_as_before same a = turns_match AsBefore 8 (turn_of f dac src) (turn_before f dac src) _ _ (turn_both same) (record { same = record { chains = refl; rx = refl; left = refl }; right = refl; alike = a })
+    both_ways same a = turns_match AsBefore 8 (turn_of f dac src) (turn_before f dac src) _ _ (turn_both same) (record { same = record { chains = refl; rx = refl; left = refl }; right = refl; alike = a })
+
+    pub voices_as_before : SameRecords f → AmpsAlike chains → let b = voices_of f dac src chains in voices_before f dac src (earlier_chains chains) ≡ record { chains = earlier_chains b.chains; rx = b.rx; mix = b.mix }
+    voices_as_before same a = whole (voices_of f dac src chains) (voices_before f dac src (earlier_chains chains)) (both_ways same a)
+
+    pub voices_alike : SameRecords f → AmpsAlike chains → AmpsAlike (voices_of f dac src chains).chains
+    voices_alike same a = (both_ways same a).alike

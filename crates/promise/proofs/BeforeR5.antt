@@ -4,12 +4,15 @@ use mathlib.Core.Path.{◌≡◌, refl, sym, ap, ◌∙◌, subst}
 use mathlib.Core.Bool.{Bool, true, false, cond}
 use mathlib.Core.List.{List, [], ◌∷◌, ◌++◌, append-nil}
 use lib.Dec.{T}
+use lib.IntN.{ℤ}
+use Rattle.sources.specs.Sources.{sound_of}
 use Rattle.bus.specs.BeforeR5.{SameRecords}
-use Rattle.bus.proofs.BeforeR5.{AmpsAlike}
+use Rattle.bus.proofs.BeforeR5.{AmpsAlike, voices_alike}
 use Rattle.board.specs.declared.Analog.{Analog}
-use Rattle.board.specs.Board.{fresh_of, stepped_of}
+use Rattle.board.specs.declared.Inputs.{Inputs}
+use Rattle.board.specs.Board.{fresh_of, taken_of, stepped_of}
 use Rattle.board.specs.BeforeR5.{AnalogBefore, AnswerBefore, fresh_before, stepped_before, earlier_board}
-use Rattle.board.proofs.BeforeR5.{fresh_as_before, fresh_alike, stepped_as_before, stepped_alike, answer_as_before}
+use Rattle.board.proofs.BeforeR5.{fresh_as_before, fresh_alike, stepped_as_before, answer_as_before}
 use Rattle.receive.proofs.BeforeR5.{received_as_before, destination_as_before}
 use Rattle.promise.specs.Calls.{Given, Call, step, receive, given_of, taken, next_of, reached_of}
 use Rattle.promise.specs.Promise.{EachAccepted}
@@ -20,6 +23,10 @@ abbrev Same : Analog → Given → Type 0
 Same b g = SameRecords g.frame
 
 -- ---- one call, on a board whose amps stand alike
+stepped_alike : (b : Analog) (f : List ℕ) (dac : List ℤ) (fx : List ℕ) (x : Inputs) → AmpsAlike b.chains → SameRecords f → AmpsAlike (stepped_of b f dac fx x).board.chains
+unfolding stepped_of
+stepped_alike b f dac fx x a same = voices_alike f dac (sound_of f dac (taken_of b)).src b.chains same a
+
 module _ (b : Analog) (k : Call) (a : AmpsAlike b.chains) (h : T (taken k) → SameRecords (given_of k).frame) where
   abbrev g : Given
   g = given_of k

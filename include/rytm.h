@@ -76,7 +76,7 @@ typedef struct {
     Wobble wobble;
 } Analog;
 
-/* Refused where a compiler lays the board out in another way than the library. */
+/* Refused where a compiler gives the board another size than the library does. */
 typedef char rytm_board_size[sizeof(Analog) == 980 ? 1 : -1];
 
 /* What a step gives. number: 0 done; refused by 1 a frame under 664 bytes, 2 under 24 FX bytes, 3 not 16 DAC words,

@@ -1,4 +1,4 @@
-//! Compares the port's board with the published Rust (built by tools/oracle), step by step: outcome, twelve words, mix and
+//! Compares the port's board with the Rust of tools/oracle, the published one with the requests in force, step by step: outcome, twelve words, mix and
 //! the whole board, bit for bit; two values that are not numbers count as equal. The Rust refuses nothing: the refusals of
 //! document 01 stand before it here.
 //!
@@ -10,8 +10,8 @@
 //!     --record FILE       writes a recording of N generated steps of all styles (at most 4096), and compares nothing
 //!
 //! What a request changes is counted by itself where the oracle (tools/oracle) is without it: of R-3 the FM phases, which have to be all that it met; of R-5 the
-//! steps whose mix differs, each of which has to be one with a chain whose sides are apart; of generated steps there have to be some. A step that differs in
-//! anything else is a difference.
+//! steps whose mix differs, each of which has to be one with a chain whose sides are apart, and if generated steps met such a chain there have to be some. A step
+//! that differs in anything else is a difference.
 //!
 //! Links board_c curves_c.
 

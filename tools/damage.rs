@@ -1,5 +1,5 @@
 //! Plays good and damaged recordings with the replay program and compares what it writes with this reader's lines: its own reading of the
-//! format (board/recording.rs) and the steps of the published Rust (built by tools/oracle).
+//! format (board/recording.rs) and the steps of the Rust of tools/oracle.
 //!
 //!     --recordings N    how many (default 100000)
 //!     --seed S          seed of the generated recordings (default 1)

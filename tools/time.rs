@@ -1,4 +1,4 @@
-//! Seconds of sound a second: the port, the published Rust with the port's curves, and the Rust with its own library's.
+//! Seconds of sound a second: the port, the Rust of tools/oracle with the port's curves, and the same with its own library's.
 //! The same firmware-like steps for each, one thread, turn by turn; the best of each counts.
 //!
 //!     --seconds N    sound in each turn (default 2)

@@ -71,7 +71,7 @@ counts! { Count NAMES:
     Modes "chain: amp records of different modes",
     LeftHeld "chain: left amp held, right falls",
     RightHeld "chain: right amp held, left falls",
-    Sound "chain: both amp levels above 0",
+    BothSound "chain: both amp levels above 0",
     LeftSounds "chain: left amp level above 0, right not",
     RightSounds "chain: right amp level above 0, left not",
     Mute "chain: both amp levels at or below 0",
@@ -253,7 +253,7 @@ impl Met {
         self.add(LeftHeld, a.amp.hold && a.amp_r.level < b.amp_r.level && !right_starts);
         self.add(RightHeld, a.amp_r.hold && a.amp.level < b.amp.level && !left_starts);
         let sounds = match (a.amp.level > 0.0, a.amp_r.level > 0.0) {
-            (true, true) => Sound,
+            (true, true) => BothSound,
             (true, _) => LeftSounds,
             (_, true) => RightSounds,
             _ => Mute,

@@ -1,4 +1,4 @@
--- The board and its step as they were before R-5, on the chains of then. `x_before` is `x_of` of specs/Board.antt as it stood; what R-5 left alone is shared, and is
+-- The board and its step as they were before R-5, on the chains of then. `x_before` is `x_of` of specs/Board.antt as it stood, or `x_if`; what R-5 left alone is shared, and is
 -- today's. Definitions only.
 use Rattle.std.specs.Prelude.{ℕ, Bool, true, false, List, replicate, ℤ, pos, Option, None}
 use Rattle.float.specs.Consts.{k0}

@@ -2,6 +2,7 @@
 -- alike and both records of each voice are the same bytes, the right mix too, and the amps stand alike after it. Assumes nothing.
 use Prim.Native.Nat.{ℕ, ◌<◌}
 use mathlib.Core.Path.{◌≡◌, refl, sym, ap, ap₂, ◌∙◌}
+use mathlib.Core.Bool.{cond}
 use mathlib.Core.List.{List}
 use lib.ListN.{get_or, set, get_or-map}
 use lib.IntN.{ℤ}
@@ -19,7 +20,7 @@ use Rattle.chain.specs.declared.ChainOut.{ChainOut}
 use Rattle.chain.specs.Chain.{no_chain, process_of}
 use Rattle.chain.specs.BeforeR5.{ChainBefore, ChainOutBefore, no_chain_before, process_before, earlier_chain}
 use Rattle.chain.proofs.BeforeR5.{left_as_before, right_as_left}
-use Rattle.bus.proofs.Alone.{side, each_side_alone}
+use Rattle.bus.proofs.Alone.{pushed}
 use Rattle.bus.specs.declared.Bus.{Bus}
 use Rattle.bus.specs.Bus.{input_of, contribution_of, added_of, turn_of, voices_of}
 use Rattle.bus.specs.BeforeR5.{BusBefore, added_before, turn_before, voices_before, earlier_chains, LeftAsBefore, SameRecords}
@@ -64,7 +65,11 @@ module _ (f : List ℕ) (dac : List ℤ) (src : List Float) where
         ap₂ (λ (l : List ChainBefore) (o : ChainOutBefore). set l v o.chain) h.chains (sample v b e h)
         ∙ sym (map-set earlier_chain b.chains v (now v b).chain);
     rx = ap₂ (λ (l : List ℤ) (o : ChainOutBefore). set l v (to24_of (o.y ⊗ k0p5))) h.rx (sample v b e h);
-    left = side (λ (m : Mix). m.l) (routed_off f v) e.mix b.mix _ _ h.left (ap₂ (λ (m : Float) (o : ChainOutBefore). m ⊕ contribution_of f VCA_L v o.y) h.left (sample v b e h));
+    left =
+        let off = routed_off f v in
+        pushed (λ (m : Mix). m.l) off e.mix _
+        ∙ ap₂ (λ (m : Float) (o : ChainOutBefore). cond off m (m ⊕ contribution_of f VCA_L v o.y)) h.left (sample v b e h)
+        ∙ sym (pushed (λ (m : Mix). m.l) off b.mix _);
   }
 
   turn_both : SameRecords f → (v : ℕ) (b : Bus) (e : BusBefore) → v < 8 → AsBefore b e → AsBefore (turn_of f dac src v b) (turn_before f dac src v e)
@@ -75,9 +80,10 @@ module _ (f : List ℕ) (dac : List ℤ) (src : List Float) where
       record {
         same = turn_left v b e h.same;
         right =
-            side (λ (m : Mix). m.r) (routed_off f v) e.mix b.mix _ (both (b.mix.l ⊕ contribution_of f VCA_L v (now v b).y.r) (b.mix.r ⊕ contribution_of f VCA_R v (now v b).y.r)) h.right
-            (ap₂ (λ (m y : Float). m ⊕ contribution_of f VCA_R v y) h.right y)
-            ∙ sym ((each_side_alone f v b.mix (now v b).y).right (now v b).y.r);
+            let off = routed_off f v in
+            pushed (λ (m : Mix). m.r) off e.mix _
+            ∙ ap₂ (λ (m y : Float). cond off m (m ⊕ contribution_of f VCA_R v y)) h.right y
+            ∙ sym (pushed (λ (m : Mix). m.r) off b.mix _);
         alike = set_keeps_read (λ (c : Chain). c.amp_r ≡ c.amp) no_chain b.chains v (now v b).chain h.alike s.0;
       }
 

@@ -24,7 +24,7 @@ pub record ChainBy (f : List ℕ) (v : ℕ) (old new : Chain) : Type 0 where
   pub is : new ≡ (process_of f v x old).chain
 
 module _ (f : List ℕ) (dac : List ℤ) (src : List Float) (chains : List Chain) where
-  turn : (v : ℕ) (b : Bus) → Turn (λ (y : Bus). y.chains) no_chain (ChainBy f) v b (turn_of f dac src v b)
+  pub turn : (v : ℕ) (b : Bus) → Turn (λ (y : Bus). y.chains) no_chain (ChainBy f) v b (turn_of f dac src v b)
   unfolding turn_of
   turn v b = record { put = (process_of f v (input_of dac src v) (get_or b.chains v no_chain)).chain; sets = refl; rule = record { x = input_of dac src v; is = refl } }
 

@@ -1,4 +1,4 @@
 -- Laws of `bus`.
-pub mod Alone
 pub mod Kept
+pub mod Alone
 pub mod BeforeR5

@@ -41,11 +41,6 @@ contribution_of f vca v y = y ⊗ word_f f (vca + 2 * v) ⊘ k32767
 unfoldable pub added_of : List ℕ → ℕ → Mix → Mix → Mix
 added_of f v m y = cond (routed_off f v) m (record { l = m.l ⊕ contribution_of f VCA_L v y.l; r = m.r ⊕ contribution_of f VCA_R v y.r })
 
--- a side of the mix goes by that side's sample alone: it is the same whatever the other's is
-pub record EachSideAlone (f : List ℕ) (v : ℕ) (m y sum : Mix) : Type 0 where
-  pub left : (z : Float) → sum.l ≡ (added_of f v m (record { l = y.l; r = z })).l
-  pub right : (z : Float) → sum.r ≡ (added_of f v m (record { l = z; r = y.r })).r
-
 -- voice v: its chain's left output × 0.5 becomes receive word v
 unfoldable pub turn_of : List ℕ → List ℤ → List Float → ℕ → Bus → Bus
 turn_of f dac src v b =
@@ -55,6 +50,19 @@ turn_of f dac src v b =
 -- chains 0 to 7
 unfoldable pub voices_of : List ℕ → List ℤ → List Float → List Chain → Bus
 voices_of f dac src chains = turns_of 8 (turn_of f dac src) (record { chains = chains; rx = replicate 12 (pos 0); mix = record { l = k0; r = k0 } })
+
+-- voice v's samples, of its own chain
+unfoldable pub samples_of : List ℕ → List ℤ → List Float → List Chain → ℕ → Mix
+samples_of f dac src chains v = (process_of f v (input_of dac src v) (get_or chains v no_chain)).y
+
+-- a side's sum of such samples, in the order of the voices, without those that are routed off
+unfoldable pub sum_of : List ℕ → ℕ → (ℕ → Float) → ℕ → Float
+sum_of f vca y n = turns_of n (λ v m. cond (routed_off f v) m (m ⊕ contribution_of f vca v (y v))) k0
+
+-- "the left mix .. use the left level, the right mix the right one": each side is the sum of its own samples alone
+pub record EachSideAlone (f : List ℕ) (dac : List ℤ) (src : List Float) (chains : List Chain) (m : Mix) : Type 0 where
+  pub left : m.l ≡ sum_of f VCA_L (λ v. (samples_of f dac src chains v).l) 8
+  pub right : m.r ≡ sum_of f VCA_R (λ v. (samples_of f dac src chains v).r) 8
 
 -- each word within ±8,388,607
 abbrev pub InWordRange : List ℤ → Type 0

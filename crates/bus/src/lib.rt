@@ -46,8 +46,7 @@ fn contribution(f: &Frame, vca: usize, v: usize, y: f32) -> f32
 #[tactic(auto, unfolding(crate::specs::Bus::added_of))]
 fn added(f: &Frame, v: usize, m: Mix, y: Mix) -> Mix
     requires { v < 8 }
-    ensures value { result ≡ added_of f.now v m y }
-    ensures alone { EachSideAlone f.now v m y result }
+    ensures { result ≡ added_of f.now v m y }
 {
     if frame::routed_off(f, v) {
         return m;
@@ -70,6 +69,7 @@ pub struct Bus {
 #[tactic(auto, unfolding(lists::specs::Turns::turns_of, crate::specs::Bus::input_of, crate::specs::Bus::turn_of, crate::specs::Bus::voices_of))]
 pub fn voices(mut chains: [Chain; 8], f: &Frame, dac: &DacWords, src: [f32; 8]) -> Bus
     ensures value { result ≡ voices_of f.now dac.now src chains }
+    ensures alone { EachSideAlone f.now dac.now src chains result.mix }
     ensures left { LeftAsBefore result (voices_before f.now dac.now src (earlier_chains chains)) }
 {
     let mut rx: [i32; 12] = [0; 12];

@@ -1,4 +1,4 @@
--- A voice's chain as it was before R-5: one amp record, whose level went to both sides. `x_before` is `x_of` of specs/Chain.antt as it stood; what R-5 left alone is
+-- A voice's chain as it was before R-5: one amp record, whose level went to both sides. `x_before` is `x_of` of specs/Chain.antt as it stood, or `x`; what R-5 left alone is
 -- shared, and is today's. Definitions only.
 use Rattle.std.specs.Prelude.{ℕ, ◌+◌, ◌*◌, true, false, List, Float}
 use Rattle.std.specs.Float.{nan}

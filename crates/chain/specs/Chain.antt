@@ -127,11 +127,17 @@ process_of f v x c =
       y = record { l = s.y ⊗ gain_of amp.level; r = s.y ⊗ gain_of amp_r.level };
     }
 
--- each envelope of a chain sees its own record, the right amp "with the same rule as the left"; and some one sample goes to each side by that side's level
-pub record EachItsOwn (f : List ℕ) (v : ℕ) (old : Chain) (o : ChainOut) : Type 0 where
+-- the filtered sample, which no amp has touched
+unfoldable pub filtered_of : List ℕ → ℕ → Float → Chain → Float
+filtered_of f v x c =
+    let i = settings_of f v in
+    let flt = seg_of false i.rf c.flt in
+    (filter_of c i (cutoff_of i.frq i.depth flt.level) (drive_of i.ovr x)).y
+
+-- each envelope of a chain sees its own record, the right amp "with the same rule as the left"; and the filtered sample goes to each side by that side's level
+pub record EachItsOwn (f : List ℕ) (v : ℕ) (x : Float) (old : Chain) (o : ChainOut) : Type 0 where
   pub amp : o.chain.amp ≡ seg_of true (bytes_at f (AMP_ENV + 8 * v)) old.amp
   pub amp_r : o.chain.amp_r ≡ seg_of true (bytes_at f (AMP_ENV_R + 8 * v)) old.amp_r
   pub flt : o.chain.flt ≡ seg_of false (bytes_at f (FLT_ENV + 8 * v)) old.flt
-  pub sample : Float
-  pub left : o.y.l ≡ sample ⊗ gain_of o.chain.amp.level
-  pub right : o.y.r ≡ sample ⊗ gain_of o.chain.amp_r.level
+  pub left : o.y.l ≡ filtered_of f v x old ⊗ gain_of o.chain.amp.level
+  pub right : o.y.r ≡ filtered_of f v x old ⊗ gain_of o.chain.amp_r.level

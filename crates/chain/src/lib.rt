@@ -232,7 +232,7 @@ impl Chain {
     pub fn process(self, f: &Frame, v: usize, x: f32) -> ChainOut
         requires { v < 8 }
         ensures value { result ≡ process_of f.now v x self }
-        ensures own { EachItsOwn f.now v self result }
+        ensures own { EachItsOwn f.now v x self result }
     {
         let i = Settings::read(f, v);
         let flt = self.flt.filter(i.rf);

@@ -76,12 +76,13 @@ module _ {S A : Type 0} (list : S → List A) (z : A) (R : ℕ → A → A → T
       let e = each n (turns_of n g s) in
       ap length e.sets ∙ length-set (list (turns_of n g s)) n e.put ∙ turns_length n
 
-  later : (n v : ℕ) → n ≤ v → get_or (list (turns_of n g s)) v z ≡ get_or (list s) v z
+  -- no turn of before has touched it
+  pub turns_later : (n v : ℕ) → n ≤ v → get_or (list (turns_of n g s)) v z ≡ get_or (list s) v z
   unfolding turns_of
-  later zero v k = refl
-  later (suc n) v k =
+  turns_later zero v k = refl
+  turns_later (suc n) v k =
       let e = each n (turns_of n g s) in
-      ap (λ (l : List A). get_or l v z) e.sets ∙ get_or-set_other (list (turns_of n g s)) n v e.put z (λ i. omega arith) ∙ later n v (omega arith)
+      ap (λ (l : List A). get_or l v z) e.sets ∙ get_or-set_other (list (turns_of n g s)) n v e.put z (λ i. omega arith) ∙ turns_later n v (omega arith)
 
   pub turns_at : (n v : ℕ) → v < n → n ≤ length (list s) → R v (get_or (list s) v z) (get_or (list (turns_of n g s)) v z)
   unfolding turns_of
@@ -98,6 +99,6 @@ module _ {S A : Type 0} (list : S → List A) (z : A) (R : ℕ → A → A → T
       by rec (yes j) = subst (λ (x : A). R v (get_or (list s) v z) x) (sym (ap (λ (l : List A). get_or l v z) e.sets ∙ get_or-set_other (list t) n v e.put z (λ q. omega arith))) (rec j)
       by rec (no j) =
           let q : v ≡ n = omega arith in
-          let old : get_or (list t) n z ≡ get_or (list s) n z = later n n (omega arith) in
+          let old : get_or (list t) n z ≡ get_or (list s) n z = turns_later n n (omega arith) in
           let new : get_or (list (g n t)) n z ≡ e.put = ap (λ (l : List A). get_or l n z) e.sets ∙ get_or-set_same (list t) n e.put z (rw (turns_length n) k) in
           rw q (subst (λ (x : A). R n x (get_or (list (g n t)) n z)) old (subst (λ (x : A). R n (get_or (list t) n z) x) (sym new) e.rule))

@@ -1,4 +1,4 @@
--- `bus::voices` meets its contract: what it gives is its definition's, and so its left side is that of before R-5. Assumes nothing.
+-- `bus::voices` meets its contract: what it gives is its definition's, so each side is the sum of its own samples, and the left one is that of before R-5. Assumes nothing.
 use Prim.Native.Nat.{ℕ}
 use native.Mathlib.Omega.{arith}
 use mathlib.Core.Path.{◌≡◌, sym, ap, subst, ◌∙◌}
@@ -7,8 +7,9 @@ use lib.IntN.{pos}
 use Rattle.float.specs.Consts.{k0}
 use Rattle.lists.specs.Turns.{turns_of}
 use Rattle.bus.specs.declared.Bus.{Bus}
-use Rattle.bus.specs.Bus.{turn_of, voices_of}
+use Rattle.bus.specs.Bus.{turn_of, voices_of, EachSideAlone}
 use Rattle.bus.specs.BeforeR5.{LeftAsBefore, voices_before, earlier_chains}
+use Rattle.bus.proofs.Alone.{each_side_alone}
 use Rattle.bus.proofs.BeforeR5.{voices_left}
 use Rattle.bus.proofs.voices.Goals as goal
 
@@ -18,6 +19,11 @@ returns-clause-value c =
     let a = c.args in
     let all : c.loop-v.v ≡ 8 = omega (arith, c.loop-v-test.false, c.loop-v.auto.v-end) in
     c.loop-v.invariant ∙ ap (λ (n : ℕ). turns_of n (turn_of a.f.now a.dac.now a.src) (record { chains = a.chains; rx = replicate 12 (pos 0); mix = record { l = k0; r = k0 } })) all
+
+pub returns-clause-alone : goal.returns-clause-alone
+returns-clause-alone c =
+    let a = c.args in
+    subst (λ (b : Bus). EachSideAlone a.f.now a.dac.now a.src a.chains b.mix) (sym (returns-clause-value c)) (each_side_alone a.f.now a.dac.now a.src a.chains)
 
 pub returns-clause-left : goal.returns-clause-left
 returns-clause-left c =

@@ -11,4 +11,4 @@ unfolding process_of gain_of
 returns-clause-value c = search rules
 
 pub returns-clause-own : goal.returns-clause-own
-returns-clause-own c = let a = c.args in subst (λ (o : ChainOut). EachItsOwn a.f.now a.v a.self o) (sym (returns-clause-value c)) (each_its_own a.f.now a.v a.x a.self)
+returns-clause-own c = let a = c.args in subst (λ (o : ChainOut). EachItsOwn a.f.now a.v a.x a.self o) (sym (returns-clause-value c)) (each_its_own a.f.now a.v a.x a.self)

@@ -1,17 +1,16 @@
 -- One sample of a dual voice, on any frame of bytes, keeps its phases from 0 to below 1, its detunes and drifts bounded and its levels levels, and so the random source. Assumes nothing.
 use Prim.Native.Nat.{ℕ, ◌+◌, ◌*◌, ◌≤◌}
-use native.Mathlib.Omega.{arith}
 use mathlib.Core.Bool.{Bool, true, false, not, ◌&&◌, ◌||◌}
 use mathlib.Core.List.{List}
 use lib.ListN.{get_or}
-use lib.Dec.{eqb, le→leb}
+use lib.Dec.{eqb}
 use lib.IntN.{pos}
-use lib.Ieee.{Float, nan, binary32, le, lt, eq, fits, of_bits, of_int, round}
+use lib.Ieee.{Float, nan, binary32, le, lt, eq, fits, of_bits, of_int}
 use Rattle.line.proofs.Range.{In}
-use Rattle.line.proofs.Whole.{of_int_in}
 use Rattle.float.specs.Consts.{k0, k1, k127, FS, k65535, k0p45}
 use Rattle.float.specs.Ops.{◌⊗◌, ◌⊘◌}
 use Rattle.float.specs.Floats.{min_of, clamp_of}
+use Rattle.float.proofs.Numbers.{word_range}
 use Rattle.float.proofs.Eval.{leaf, con, plus, times, over, capped, floored, clamped, range, proves}
 use Rattle.frame.specs.Offsets.{PITCH_REC, AMP_REC, AMP2_REC, dual_spec}
 use Rattle.frame.specs.Frame.{Bytes}
@@ -55,9 +54,6 @@ cv_in f h d k = word_in f h ((dual_spec d).cv + 2 * k)
 pub record_bytes : (f : List ℕ) → Bytes f → (d k : ℕ) → Bytes (record_at f d k)
 unfolding record_at
 record_bytes f h d k = bytes_in f h ((dual_spec d).env + 8 * k)
-
-word_range : (w : ℕ) → w ≤ 65535 → In binary32 k0 k65535 (of_int binary32 (pos w))
-word_range w h = unfold of_bits of_int round fits le lt eq in of_int_in binary32 (pos 0) (pos 65535) k0 k65535 (pos w) (le→leb 0 w (omega arith)) (le→leb w 65535 h) tt
 
 -- ---- the frequency
 pub hz_in : (w : ℕ) (l t r : Float) → w ≤ 65535 → Level l → Ratio t → Ratio r → In binary32 k0 k65535 (hz_of w l t r)

@@ -6,3 +6,4 @@ pub mod Eval
 pub mod Laws
 pub mod Remainder
 pub mod Never
+pub mod Numbers

@@ -1,0 +1,2 @@
+-- The definition that the contract of `stereo` cites.
+pub mod Stereo

@@ -11,7 +11,7 @@ use Rattle.frame.specs.Frame.{bytes_at}
 use Rattle.envelope.specs.declared.SegEnv.{SegEnv}
 use Rattle.envelope.specs.Moves.{seg_of}
 use Rattle.chain.specs.declared.Chain.{Chain}
-use Rattle.chain.specs.Chain.{settings_of, filter_of, filtered_of, gain_of, process_of}
+use Rattle.chain.specs.Chain.{settings_of, filter_of, gain_of, process_of}
 use Rattle.chain.specs.BeforeR5.{settings_before, filter_before, process_before, earlier_chain}
 use Rattle.chain.proofs.Own.{each_its_own}
 
@@ -24,4 +24,4 @@ module _ (f : List ℕ) (v : ℕ) (x : Float) (c : Chain) where
   right_as_left e r =
       let s = each_its_own f v x c in
       let amps = s.amp_r ∙ ap₂ (seg_of true) r e ∙ sym s.amp in
-      (amps, s.right ∙ ap (λ (a : SegEnv). filtered_of f v x c ⊗ gain_of a.level) amps ∙ sym s.left)
+      (amps, s.right ∙ ap (λ (a : SegEnv). (process_of f v x c).filtered ⊗ gain_of a.level) amps ∙ sym s.left)

@@ -1,5 +1,5 @@
 -- A voice's chain, from analog.rs. Definitions only.
-use Rattle.std.specs.Prelude.{ℕ, ◌≡◌, ◌+◌, ◌*◌, true, false, cond, List, Float}
+use Rattle.std.specs.Prelude.{ℕ, ◌≡◌, ◌+◌, ◌*◌, true, false, cond, List, T, Float}
 use Rattle.std.specs.Float.{nan}
 use Rattle.std.specs.Float.Ieee.{neg, lt, le}
 use Rattle.std.specs.Float.Ieee.Scale.{finite}
@@ -61,6 +61,10 @@ cutoff_of frq depth level =
     let cv = frq ⊕ depth ⊗ (max_of level k0 ⊘ k127) in
     clamp_of (k440 ⊗ exp2_of ((cv ⊘ k512 ⊕ k64 ⊖ k60) ⊘ k12)) k10 k22000
 
+-- the cutoff that the tangent takes: at most 0.45 of the sample rate
+unfoldable pub limited_of : Float → Float
+limited_of fc = min_of fc (FS ⊗ k0p45)
+
 -- the resonance, from 0 to 1
 unfoldable pub res_of : Float → Float
 res_of word = clamp_of (word ⊘ (k127 ⊗ k256)) k0 k1
@@ -68,7 +72,7 @@ res_of word = clamp_of (word ⊘ (k127 ⊗ k256)) k0 k1
 -- tangent, damping and quotients, of the cutoff and the resonance
 unfoldable pub coefs_of : Float → Float → Coefs
 coefs_of fc res =
-    let g = tan_of (PI ⊗ min_of fc (FS ⊗ k0p45) ⊘ FS) in
+    let g = tan_of (PI ⊗ limited_of fc ⊘ FS) in
     let k = k2 ⊗ (k1 ⊖ k0p97 ⊗ res) in
     let a1 = k1 ⊘ (k1 ⊕ g ⊗ (g ⊕ k)) in
     record { k = k; a1 = a1; a2 = g ⊗ a1; a3 = g ⊗ g ⊗ a1 }
@@ -125,19 +129,20 @@ process_of f v x c =
     record {
       chain = record { amp = amp; flt = flt; low = s.low; band = s.band; lp1 = s.lp1; amp_r = amp_r };
       y = record { l = s.y ⊗ gain_of amp.level; r = s.y ⊗ gain_of amp_r.level };
+      filtered = s.y;
+      cutoff = limited_of fc;
     }
-
--- the filtered sample, which no amp has touched
-unfoldable pub filtered_of : List ℕ → ℕ → Float → Chain → Float
-filtered_of f v x c =
-    let i = settings_of f v in
-    let flt = seg_of false i.rf c.flt in
-    (filter_of c i (cutoff_of i.frq i.depth flt.level) (drive_of i.ovr x)).y
 
 -- each envelope of a chain sees its own record, the right amp "with the same rule as the left"; and the filtered sample goes to each side by that side's level
 pub record EachItsOwn (f : List ℕ) (v : ℕ) (x : Float) (old : Chain) (o : ChainOut) : Type 0 where
   pub amp : o.chain.amp ≡ seg_of true (bytes_at f (AMP_ENV + 8 * v)) old.amp
   pub amp_r : o.chain.amp_r ≡ seg_of true (bytes_at f (AMP_ENV_R + 8 * v)) old.amp_r
   pub flt : o.chain.flt ≡ seg_of false (bytes_at f (FLT_ENV + 8 * v)) old.flt
-  pub left : o.y.l ≡ filtered_of f v x old ⊗ gain_of o.chain.amp.level
-  pub right : o.y.r ≡ filtered_of f v x old ⊗ gain_of o.chain.amp_r.level
+  pub left : o.y.l ≡ o.filtered ⊗ gain_of o.chain.amp.level
+  pub right : o.y.r ≡ o.filtered ⊗ gain_of o.chain.amp_r.level
+
+-- the filtered sample is "the one after the replacement of values that aren't finite", and the cutoff the one that the tangent takes, within both its limits
+pub record Traced (o : ChainOut) : Type 0 where
+  pub finite : T (finite o.filtered)
+  pub most : T (le o.cutoff (FS ⊗ k0p45))
+  pub least : T (le k10 o.cutoff)

@@ -2,7 +2,7 @@
 #![tactic(auto)]
 
 ghost use Rattle.std.specs.Prelude.{◌≡◌, ◌<◌};
-ghost use Rattle.chain.specs.Chain.{EachItsOwn, chain_new, drive_of, cutoff_of, res_of, coefs_of, multimode_of, lp1_of, pick_of, finite_or, settings_of, filter_of, process_of};
+ghost use Rattle.chain.specs.Chain.{EachItsOwn, Traced, chain_new, drive_of, cutoff_of, limited_of, res_of, coefs_of, multimode_of, lp1_of, pick_of, finite_or, settings_of, filter_of, process_of};
 
 use envelope::SegEnv;
 use frame::{FltType, Frame};
@@ -22,12 +22,14 @@ pub struct Chain {
     pub amp_r: SegEnv,
 }
 
-// A chain after its sample, and the sample, left and right. Each state has such a struct of its own, whose fields say what they are; a generic one would
+// A chain after its sample, and the sample, left and right; with it the filtered sample that the amps took, and the cutoff that the tangent took. Each state has such a struct of its own, whose fields say what they are; a generic one would
 // name them first and second.
 #[derive(Clone, Copy)]
 pub struct ChainOut {
     pub chain: Chain,
     pub y: Mix,
+    pub filtered: f32,
+    pub cutoff: f32,
 }
 
 // What the frame says to a chain.
@@ -87,6 +89,14 @@ pub fn cutoff(frq: f32, depth: f32, level: f32) -> f32
     float::clamp(440.0 * power::exp2((n - 60.0) / 12.0), 10.0, 22000.0)
 }
 
+// The cutoff that the tangent takes, short of its pole.
+#[tactic(auto, unfolding(crate::specs::Chain::limited_of))]
+fn limited(fc: f32) -> f32
+    ensures { result ≡ limited_of fc }
+{
+    float::min(fc, float::FS * 0.45)
+}
+
 #[tactic(auto, unfolding(crate::specs::Chain::res_of))]
 fn resonance(word: f32) -> f32
     ensures { result ≡ res_of word }
@@ -107,7 +117,7 @@ pub struct Coefs {
 fn coefficients(fc: f32, res: f32) -> Coefs
     ensures { result ≡ coefs_of fc res }
 {
-    let g = sine::tan(float::PI * float::min(fc, float::FS * 0.45) / float::FS);
+    let g = sine::tan(float::PI * limited(fc) / float::FS);
     let k = 2.0 * (1.0 - 0.97 * res);
     let a1 = 1.0 / (1.0 + g * (g + k));
     Coefs {
@@ -233,6 +243,7 @@ impl Chain {
         requires { v < 8 }
         ensures value { result ≡ process_of f.now v x self }
         ensures own { EachItsOwn f.now v x self result }
+        ensures traced { Traced result }
     {
         let i = Settings::read(f, v);
         let flt = self.flt.filter(i.rf);
@@ -253,6 +264,8 @@ impl Chain {
                 l: s.y * envelope::gain(amp.level, 0.0),
                 r: s.y * envelope::gain(amp_r.level, 0.0),
             },
+            filtered: s.y,
+            cutoff: limited(fc),
         }
     }
 }

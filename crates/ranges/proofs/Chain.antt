@@ -12,7 +12,7 @@ use Rattle.envelope.specs.Levels.{Level}
 use Rattle.power.specs.Power.{zero_f, exp_low}
 use Rattle.sine.specs.Sine.{one_five}
 use Rattle.envelope.proofs.Ranges.{level_range}
-use Rattle.chain.specs.Chain.{cutoff_of}
+use Rattle.chain.specs.Chain.{cutoff_of, limited_of}
 use Rattle.ranges.specs.Arguments.{frq_word, depth_word, cutoff, tangent, pole}
 use Rattle.ranges.specs.Ranges.{InExp2, InExp, InTan}
 use Rattle.ranges.proofs.Inside.{Small, up_to_lem, small_call, small_power, signed_in}
@@ -32,7 +32,7 @@ module _ (f : List ℕ) (B : Bytes f) (v : ℕ) (l : Float) (h : Level l) where
   cutoff_in = range k10 k22000 (clamped (times (con k440) (leaf (small_power cutoff_small))) k10 k22000) tt
 
 pub tan_call : (fc : Float) → In binary32 k10 k22000 fc → InTan (tangent fc)
-unfolding of_bits proves
+unfolding limited_of of_bits proves
 tan_call fc h = up_to_lem (range zero_f one_five (over (times (con PI) (capped (leaf h) (FS ⊗ k0p45))) FS) tt)
 
 pub pole_call : (fc : Float) → In binary32 k10 k22000 fc → InExp (pole fc)

@@ -1,7 +1,7 @@
 -- What each definition of the step gives to its curve. Definitions only; proofs/Called.antt shows that these are what the definitions give.
 use Rattle.std.specs.Prelude.{ℕ, ◌+◌, ◌*◌, Bool, cond, List, Float}
 use Rattle.std.specs.Float.Ieee.{neg}
-use Rattle.float.specs.Consts.{k0, k1, LEVELS_PER_6DB, k12, k60, k64, k127, k500, k512, k1200, k6000, k12000, k16000, k32767, k32768, FS, k0p03, k0p45, k0p75, k1p5, k5p64, TAU, PI}
+use Rattle.float.specs.Consts.{k0, k1, LEVELS_PER_6DB, k12, k60, k64, k127, k500, k512, k1200, k6000, k12000, k16000, k32767, k32768, FS, k0p03, k0p75, k1p5, k5p64, TAU, PI}
 use Rattle.float.specs.Ops.{◌⊕◌, ◌⊖◌, ◌⊗◌, ◌⊘◌}
 use Rattle.float.specs.Floats.{min_of, max_of, clamp_of}
 use Rattle.frame.specs.Offsets.{FRQ, FLT_ENV, HAT_COLOUR, CYM_COLOUR}
@@ -11,6 +11,7 @@ use Rattle.wobble.specs.declared.Wobble.{Wobble}
 use Rattle.wobble.specs.declared.Drift.{Drift}
 use Rattle.wobble.specs.Wobble.{DETUNE_CENTS, uni_of, cents_of}
 use Rattle.vco.specs.Vco.{asym_of}
+use Rattle.chain.specs.Chain.{limited_of}
 use Rattle.comp.specs.Consts.{k20, k0p000001, k0p00001}
 
 -- ---- the oscillators
@@ -78,7 +79,7 @@ cutoff frq depth level = let cv = frq ⊕ depth ⊗ (max_of level k0 ⊘ k127) i
 
 -- `coefs_of` to the tangent
 abbrev pub tangent : Float → Float
-tangent fc = PI ⊗ min_of fc (FS ⊗ k0p45) ⊘ FS
+tangent fc = PI ⊗ limited_of fc ⊘ FS
 
 -- `lp1_of`, and `pole_of` of `comp`, to exp
 abbrev pub pole : Float → Float

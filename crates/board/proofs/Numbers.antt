@@ -4,7 +4,7 @@ use mathlib.Core.Bool.{false}
 use Rattle.std.specs.Prelude.{Some}
 use Rattle.board.specs.Board.{accepted}
 use Rattle.board.specs.declared.refusals.Refusal.{Refusal}
-use Rattle.board.specs.declared.refusals.Refusal.TheVariants.{ShortFrame, ShortParameters, DacCount, DacRange, InputRange, BadOpening, WrongLength, NoBody, SlotTable, DestinationCount}
+use Rattle.board.specs.declared.refusals.Refusal.TheVariants.{ShortFrame, ShortParameters, DacCount, DacRange, InputRange, BadOpening, WrongLength, NoBody, SlotTable, DestinationCount, VoiceNumber}
 
 pub not_accepted : (r : Refusal) → accepted (Some r) ≡ false
 not_accepted ShortFrame = refl
@@ -17,3 +17,4 @@ not_accepted WrongLength = refl
 not_accepted NoBody = refl
 not_accepted SlotTable = refl
 not_accepted DestinationCount = refl
+not_accepted VoiceNumber = refl

@@ -14,14 +14,15 @@ use Rattle.cym.specs.Cym.{cym_new}
 use Rattle.sources.specs.Sources.{sound_of}
 use Rattle.sources.specs.declared.Sources.{Sources}
 use Rattle.chain.specs.Chain.{chain_new}
-use Rattle.bus.specs.Bus.{voices_of, master_of}
+use Rattle.chain.specs.declared.ChainOut.{ChainOut}
+use Rattle.bus.specs.Bus.{sample_of, voices_of, master_of}
 use Rattle.comp.specs.Comp.{comp_new, process_of}
 use Rattle.stereo.specs.declared.Mix.{Mix}
 use Rattle.board.specs.declared.Analog.{Analog}
 use Rattle.board.specs.declared.Inputs.{Inputs}
 use Rattle.board.specs.declared.Answer.{Answer}
 use Rattle.board.specs.declared.refusals.Refusal.{Refusal}
-use Rattle.board.specs.declared.refusals.Refusal.TheVariants.{ShortFrame, ShortParameters, DacCount, DacRange, InputRange, BadOpening, WrongLength, NoBody, SlotTable, DestinationCount}
+use Rattle.board.specs.declared.refusals.Refusal.TheVariants.{ShortFrame, ShortParameters, DacCount, DacRange, InputRange, BadOpening, WrongLength, NoBody, SlotTable, DestinationCount, VoiceNumber}
 
 -- "A fresh board is made from a 32-bit seed and an ideal mark"
 unfoldable pub fresh_of : ℕ → Bool → Analog
@@ -48,6 +49,7 @@ number_of (Some WrongLength) = 7
 number_of (Some NoBody) = 8
 number_of (Some SlotTable) = 9
 number_of (Some DestinationCount) = 10
+number_of (Some VoiceNumber) = 11
 
 -- a DAC word from -8388608 to 8388607
 unfoldable pub in_range : ℤ → Bool
@@ -57,6 +59,10 @@ in_range z = le_z (negsuc 8388607) z && le_z z (pos 8388607)
 unfoldable pub all_in_range : List ℤ → Bool
 all_in_range [] = true
 all_in_range (z ∷ zs) = in_range z && all_in_range zs
+
+-- "four f32 inputs: audio left and right, ext left and right"
+unfoldable pub inputs_of : Float → Float → Float → Float → Inputs
+inputs_of al ar el er = record { audio = record { l = al; r = ar }; ext = record { l = el; r = er } }
 
 -- an input from -1 to 1; a value that is no number is in no range
 unfoldable pub input_ok : Float → Bool
@@ -94,6 +100,10 @@ words_of rx audio mix =
 -- the board's sources before any has sounded
 unfoldable pub taken_of : Analog → Sources
 taken_of b = record { duals = b.duals; hat = b.hat; toms = b.toms; cym = b.cym; w = b.wobble; src = replicate 8 k0 }
+
+-- voice v's sample in a step: of the board's own sources and chain
+unfoldable pub voice_of : Analog → List ℕ → List ℤ → ℕ → ChainOut
+voice_of b f dac v = sample_of f dac (sound_of f dac (taken_of b)).src b.chains v
 
 -- `Analog::frame`: the sources, the chains, the main bus, the compressor
 unfoldable pub stepped_of : Analog → List ℕ → List ℤ → List ℕ → Inputs → Answer

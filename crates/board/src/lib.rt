@@ -5,12 +5,12 @@ ghost use Rattle.std.specs.Prelude.{◌≡◌, Bool, ◌≤◌, ◌<◌, length,
 ghost use Rattle.std.specs.Result.{result_err};
 ghost use Rattle.frame.specs.Offsets.{FRAME_BYTES};
 ghost use Rattle.bus.specs.Bus.{InWordRange};
-ghost use Rattle.board.specs.Board.{fresh_of, number_of, in_range, all_in_range, input_ok, inputs_ok, refusal_of, refused_of, words_of, stepped_of, answer_of};
+ghost use Rattle.board.specs.Board.{fresh_of, number_of, inputs_of, in_range, all_in_range, input_ok, inputs_ok, refusal_of, refused_of, words_of, taken_of, voice_of, stepped_of, answer_of};
 
 mod refusals;
 
 use bus::Bus;
-use chain::Chain;
+use chain::{Chain, ChainOut};
 use comp::{Comp, CompOut, Parameters};
 use cym::Cym;
 use dual::DualOsc;
@@ -39,6 +39,21 @@ pub struct Analog {
 pub struct Inputs {
     pub audio: Mix,
     pub ext: Mix,
+}
+
+impl Inputs {
+    #[tactic(auto, unfolding(crate::specs::Board::inputs_of))]
+    pub fn new(audio_l: f32, audio_r: f32, ext_l: f32, ext_r: f32) -> Inputs
+        ensures { result ≡ inputs_of audio_l audio_r ext_l ext_r }
+    {
+        Inputs {
+            audio: Mix {
+                l: audio_l,
+                r: audio_r,
+            },
+            ext: Mix { l: ext_l, r: ext_r },
+        }
+    }
 }
 
 // A fresh board.
@@ -151,6 +166,12 @@ impl<'a> StepCall<'a> {
             inputs: x,
         })
     }
+
+    pub fn frame(&self) -> &Frame<'a>
+        ensures { result.now ≡ self.now.frame }
+    {
+        &self.frame
+    }
 }
 
 // The lowest that applies. Slices of any length, one by one: what a caller has before anything is tested; `StepCall` is what is left of them.
@@ -192,21 +213,45 @@ fn words(rx: [i32; 12], audio: Mix, mix: Mix) -> [i32; 12]
     next
 }
 
-// One sample, of a call that is not refused.
-#[tactic(auto, unfolding(crate::specs::Board::stepped_of, crate::specs::Board::taken_of), using(crate::proofs::Range::stepped_words))]
-pub fn stepped(board: Analog, call: &StepCall) -> Answer
-    ensures value { result ≡ stepped_of board call.now.frame call.now.dac call.now.fx call.now.inputs }
-    ensures words { InWordRange result.rx }
+// The board's sources before any has sounded.
+#[tactic(auto, unfolding(crate::specs::Board::taken_of))]
+fn taken(board: Analog) -> Sources
+    ensures { result ≡ taken_of board }
 {
     let Analog {
         duals,
         hat,
         toms,
         cym,
-        chains,
-        comp,
         wobble,
+        ..
     } = board;
+    Sources {
+        duals,
+        hat,
+        toms,
+        cym,
+        w: wobble,
+        src: [0.0; 8],
+    }
+}
+
+// Voice v's sample in this step, its chain after it, and what its filter made of it.
+#[tactic(auto, unfolding(bus::specs::Bus::input_of, bus::specs::Bus::sample_of, crate::specs::Board::voice_of))]
+pub fn voice(board: Analog, call: &StepCall, v: usize) -> ChainOut
+    requires { v < 8 }
+    ensures { result ≡ voice_of board call.now.frame call.now.dac v }
+{
+    let src = sources::sound(taken(board), &call.frame, &call.dac).src;
+    bus::sample(board.chains[v], &call.frame, &call.dac, v, src[v])
+}
+
+// One sample, of a call that is not refused.
+#[tactic(auto, unfolding(crate::specs::Board::stepped_of, crate::specs::Board::taken_of), using(crate::proofs::Range::stepped_words))]
+pub fn stepped(board: Analog, call: &StepCall) -> Answer
+    ensures value { result ≡ stepped_of board call.now.frame call.now.dac call.now.fx call.now.inputs }
+    ensures words { InWordRange result.rx }
+{
     let Sources {
         duals,
         hat,
@@ -214,21 +259,10 @@ pub fn stepped(board: Analog, call: &StepCall) -> Answer
         cym,
         w: wobble,
         src,
-    } = sources::sound(
-        Sources {
-            duals,
-            hat,
-            toms,
-            cym,
-            w: wobble,
-            src: [0.0; 8],
-        },
-        &call.frame,
-        &call.dac,
-    );
-    let Bus { chains, rx, mix } = bus::voices(chains, &call.frame, &call.dac, src);
+    } = sources::sound(taken(board), &call.frame, &call.dac);
+    let Bus { chains, rx, mix } = bus::voices(board.chains, &call.frame, &call.dac, src);
     let main = bus::master(&call.frame, &call.dac, mix, call.inputs.ext);
-    let CompOut { comp, mix } = comp.process(&call.fx, main);
+    let CompOut { comp, mix } = board.comp.process(&call.fx, main);
     let rx = words(rx, call.inputs.audio, mix);
     Answer {
         refusal: None,

@@ -1,7 +1,8 @@
 // Why a call is refused, as the table of refusals has it.
 #![tactic(auto)]
 
-// Why a call is refused: a step by the first five, a recording by the next three, a step whose words are copied by the last two beside the first five.
+// Why a call is refused: a step by the first five, a recording by the next three, a step whose words are copied by the next two beside the first five, a question about a voice by the last beside
+// these five.
 #[derive(Clone, Copy, PartialEq, Eq)]
 pub enum Refusal {
     ShortFrame = 1,
@@ -14,4 +15,5 @@ pub enum Refusal {
     NoBody,
     SlotTable,
     DestinationCount,
+    VoiceNumber,
 }

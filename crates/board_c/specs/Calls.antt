@@ -10,10 +10,6 @@ use Rattle.promise.specs.Calls.{StepAnswer, ReceiveAnswer}
 use Rattle.board_c.specs.declared.Answer.{Answer}
 use Rattle.board_c.specs.declared.Received.{Received}
 
--- "four f32 inputs: audio left and right, ext left and right"
-unfoldable pub inputs_of : Float → Float → Float → Float → Inputs
-inputs_of al ar el er = record { audio = record { l = al; r = ar }; ext = record { l = el; r = er } }
-
 -- an answer with its refusal as the table's number
 unfoldable pub numbered : Board.Answer → Answer
 numbered a = record { number = number_of a.refusal; rx = a.rx; mix = a.mix; board = a.board }

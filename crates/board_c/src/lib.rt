@@ -2,10 +2,10 @@
 #![tactic(auto)]
 
 ghost use Rattle.std.specs.Prelude.{◌≡◌};
-ghost use Rattle.board.specs.Board.{fresh_of};
+ghost use Rattle.board.specs.Board.{fresh_of, inputs_of};
 ghost use Rattle.promise.specs.Promise.{Promised};
 ghost use Rattle.promise.specs.BeforeR5.{SameRecordsSameAnswers};
-ghost use Rattle.board_c.specs.Calls.{inputs_of, Step, ReceiveStep};
+ghost use Rattle.board_c.specs.Calls.{Step, ReceiveStep};
 
 use board::{Analog, Inputs};
 use stereo::Mix;
@@ -37,19 +37,6 @@ pub extern "C" fn rytm_fresh(seed: u32, ideal: bool) -> Analog
     promise::fresh(seed, ideal)
 }
 
-#[tactic(auto, unfolding(crate::specs::Calls::inputs_of))]
-fn inputs(audio_l: f32, audio_r: f32, ext_l: f32, ext_r: f32) -> Inputs
-    ensures { result ≡ inputs_of audio_l audio_r ext_l ext_r }
-{
-    Inputs {
-        audio: Mix {
-            l: audio_l,
-            r: audio_r,
-        },
-        ext: Mix { l: ext_l, r: ext_r },
-    }
-}
-
 // A step; C passes the slices and the four inputs one by one.
 #[unsafe(no_mangle)]
 pub extern "C" fn rytm_step(
@@ -64,7 +51,7 @@ pub extern "C" fn rytm_step(
 ) -> Answer
     ensures { Step board frame.now dac.now fx.now (inputs_of audio_l audio_r ext_l ext_r) result }
 {
-    let x = inputs(audio_l, audio_r, ext_l, ext_r);
+    let x = Inputs::new(audio_l, audio_r, ext_l, ext_r);
     let board::Answer {
         refusal,
         rx,
@@ -95,7 +82,7 @@ pub extern "C" fn rytm_receive(
 ) -> Received
     ensures { ReceiveStep board frame.now dac.now fx.now (inputs_of audio_l audio_r ext_l ext_r) slots.now dest.old result dest.new }
 {
-    let x = inputs(audio_l, audio_r, ext_l, ext_r);
+    let x = Inputs::new(audio_l, audio_r, ext_l, ext_r);
     let receive::Received {
         refusal,
         mix,

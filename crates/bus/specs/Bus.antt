@@ -10,6 +10,7 @@ use Rattle.frame.specs.Frame.{word_f, routed_off}
 use Rattle.lists.specs.Turns.{turns_of}
 use Rattle.tanh.specs.Tanh.{tanh_of}
 use Rattle.chain.specs.declared.Chain.{Chain}
+use Rattle.chain.specs.declared.ChainOut.{ChainOut}
 use Rattle.chain.specs.Chain.{no_chain, process_of}
 use Rattle.stereo.specs.declared.Mix.{Mix}
 use Rattle.bus.specs.declared.Bus.{Bus}
@@ -51,9 +52,9 @@ turn_of f dac src v b =
 unfoldable pub voices_of : List ℕ → List ℤ → List Float → List Chain → Bus
 voices_of f dac src chains = turns_of 8 (turn_of f dac src) (record { chains = chains; rx = replicate 12 (pos 0); mix = record { l = k0; r = k0 } })
 
--- voice v's samples, of its own chain
-unfoldable pub samples_of : List ℕ → List ℤ → List Float → List Chain → ℕ → Mix
-samples_of f dac src chains v = (process_of f v (input_of dac src v) (get_or chains v no_chain)).y
+-- voice v's sample, of its own chain
+unfoldable pub sample_of : List ℕ → List ℤ → List Float → List Chain → ℕ → ChainOut
+sample_of f dac src chains v = process_of f v (input_of dac src v) (get_or chains v no_chain)
 
 -- a side's sum of such samples, in the order of the voices, without those that are routed off
 unfoldable pub sum_of : List ℕ → ℕ → (ℕ → Float) → ℕ → Float
@@ -61,8 +62,8 @@ sum_of f vca y n = turns_of n (λ v m. cond (routed_off f v) m (m ⊕ contributi
 
 -- "the left mix .. use the left level, the right mix the right one": each side is the sum of its own samples alone
 pub record EachSideAlone (f : List ℕ) (dac : List ℤ) (src : List Float) (chains : List Chain) (m : Mix) : Type 0 where
-  pub left : m.l ≡ sum_of f VCA_L (λ v. (samples_of f dac src chains v).l) 8
-  pub right : m.r ≡ sum_of f VCA_R (λ v. (samples_of f dac src chains v).r) 8
+  pub left : m.l ≡ sum_of f VCA_L (λ v. (sample_of f dac src chains v).y.l) 8
+  pub right : m.r ≡ sum_of f VCA_R (λ v. (sample_of f dac src chains v).y.r) 8
 
 -- each word within ±8,388,607
 abbrev pub InWordRange : List ℤ → Type 0

@@ -2,11 +2,14 @@
 #![tactic(auto)]
 
 ghost use Rattle.std.specs.Prelude.{◌≡◌, ◌≤◌, ◌<◌};
+ghost use Rattle.float.specs.Consts.{k0p5};
+ghost use Rattle.float.specs.Ops.{◌⊕◌, ◌⊗◌};
 ghost use Rattle.frame.specs.Offsets.{VCA_R};
+ghost use Rattle.chain.specs.Chain.{process_of};
 ghost use Rattle.bus.specs.Bus.{dac_f, return_of, contribution_of, added_of, EachSideAlone, voices_of, distort_of, master_of};
 ghost use Rattle.bus.specs.BeforeR5.{LeftAsBefore, voices_before, earlier_chains};
 
-use chain::Chain;
+use chain::{Chain, ChainOut};
 use frame::{DacWords, Frame};
 use stereo::Mix;
 
@@ -35,7 +38,7 @@ fn returned(dac: &DacWords, i: usize) -> f32
 
 // What voice v adds to a side, whose VCA words stand from `vca` on.
 #[tactic(auto, unfolding(crate::specs::Bus::contribution_of))]
-fn contribution(f: &Frame, vca: usize, v: usize, y: f32) -> f32
+pub fn contribution(f: &Frame, vca: usize, v: usize, y: f32) -> f32
     requires { (vca ≤ VCA_R) × (v < 8) }
     ensures { result ≡ contribution_of f.now vca v y }
 {
@@ -57,6 +60,15 @@ fn added(f: &Frame, v: usize, m: Mix, y: Mix) -> Mix
     }
 }
 
+// Voice v's sample: its source and its DAC word through its chain.
+pub fn sample(chain: Chain, f: &Frame, dac: &DacWords, v: usize, src: f32) -> ChainOut
+    requires { v < 8 }
+    ensures { result ≡ process_of f.now v (src ⊕ dac_f dac.now v ⊗ k0p5) chain }
+{
+    let x = src + dac_f32(dac, v) * 0.5;
+    chain.process(f, v, x)
+}
+
 // The chains, the receive words and the mix, as far as the voices have gone.
 #[derive(Clone, Copy)]
 pub struct Bus {
@@ -65,7 +77,7 @@ pub struct Bus {
     pub mix: Mix,
 }
 
-// Voices 0 to 7 in turn: each one's source and its DAC word through its chain.
+// Voices 0 to 7 in turn.
 #[tactic(auto, unfolding(lists::specs::Turns::turns_of, crate::specs::Bus::input_of, crate::specs::Bus::turn_of, crate::specs::Bus::voices_of))]
 pub fn voices(mut chains: [Chain; 8], f: &Frame, dac: &DacWords, src: [f32; 8]) -> Bus
     ensures value { result ≡ voices_of f.now dac.now src chains }
@@ -75,8 +87,7 @@ pub fn voices(mut chains: [Chain; 8], f: &Frame, dac: &DacWords, src: [f32; 8]) 
     let mut rx: [i32; 12] = [0; 12];
     let mut mix = Mix { l: 0.0, r: 0.0 };
     for v in 0..8 {
-        let x = src[v] + dac_f32(dac, v) * 0.5;
-        let o = chains[v].process(f, v, x);
+        let o = sample(chains[v], f, dac, v, src[v]);
         chains[v] = o.chain;
         rx[v] = float::to24(o.y.l * 0.5);
         mix = added(f, v, mix, o.y);

@@ -71,7 +71,7 @@ module _ (b : Analog) (f : List ℕ) (dac : List ℤ) (fx : List ℕ) (x : Input
     chains = chain_by f dac (sound_of f dac (taken_of b)).src b.chains g.long;
   }
 
-  stepped_good : Bytes f → Good (stepped_of b f dac fx x).board
+  pub stepped_good : Bytes f → Good (stepped_of b f dac fx x).board
   unfolding stepped_of taken_of
   stepped_good B =
       let s = sound_in f B dac (taken_of b) g.sources in

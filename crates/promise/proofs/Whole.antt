@@ -80,5 +80,8 @@ pub fresh_promised : (seed : ℕ) (ideal : Bool) → seed < 2 ^ 32 → Promised 
 fresh_promised seed ideal h = promised (fresh_of seed ideal) (fresh_good seed ideal h)
 
 -- and so is a board that calls reach
+pub reached_within : (b : Analog) → Reached b → Good b
+reached_within b r = subst (λ (x : Analog). Good x) (sym r.is) (reached_good (fresh_of r.seed r.ideal) r.calls (fresh_good r.seed r.ideal r.seed_fits))
+
 pub reached_promised : (b : Analog) → Reached b → Promised b
-reached_promised b r = promised b (subst (λ (x : Analog). Good x) (sym r.is) (reached_good (fresh_of r.seed r.ideal) r.calls (fresh_good r.seed r.ideal r.seed_fits)))
+reached_promised b r = promised b (reached_within b r)

@@ -7,7 +7,7 @@ use Rattle.board_c.proofs.rytm_receive.Goals as goal
 pub returns : goal.returns
 unfolding numbered_received
 returns c =
-    let h = rw c.inputs-x.ensures at c.receive-refusal.ensures in
+    let h = rw c.new-x.ensures at c.receive-refusal.ensures in
     record {
       is = rw (← h.is, ← c.number.ensures) refl;
       receives = rw (← h.is) h;

@@ -1,0 +1,5 @@
+-- Laws of `why`.
+pub mod Products
+pub mod First
+pub mod Step
+pub mod Whole

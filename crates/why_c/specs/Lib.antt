@@ -1,0 +1,2 @@
+-- The definitions that the contract of `why_c` cites.
+pub mod Calls

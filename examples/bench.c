@@ -1,5 +1,5 @@
 /* One second of sound from one hit of every voice: the peak of each receive word, one step's words as the firmware copies them,
-   and the time it took. */
+   what each voice adds to the mix in that step, or why it adds nothing, with three faults made, and the time it took. */
 #include <stdio.h>
 #include <stdlib.h>
 #include <string.h>
@@ -72,6 +72,26 @@ static void hit(bool commands) {
     }
 }
 
+/* BD off the main bus, SD's right VCA word 0, MT's left amp let down. */
+static void faults(void) {
+    frame[166] |= 8;
+    word(30, 0);
+    record(208, 0, 0, -128, 0xB, 0);
+}
+
+static void tell(uint32_t voice, bool right, Why w) {
+    printf("voice %u %-5s ", (unsigned)voice, right ? "right" : "left");
+    switch (w.reason) {
+    case RYTM_ROUTED_OFF: printf("routed off\n"); break;
+    case RYTM_AMP_DOWN: printf("amp level %.3f\n", w.value); break;
+    case RYTM_VCA_ZERO: printf("VCA word 0\n"); break;
+    case RYTM_FILTERED_ZERO: printf("filtered sample zero, cutoff %.3f Hz\n", w.value); break;
+    case RYTM_LOST_TO_ROUNDING: printf("lost to rounding\n"); break;
+    case RYTM_HEARD: printf("heard, %.6f\n", w.value); break;
+    default: printf("refused by %u\n", (unsigned)w.number);
+    }
+}
+
 int main(void) {
     static const uint8_t compressor[8] = {80, 3, 3, 2, 0, 47, 64, 100};
     static const uint8_t slots[8] = {0, 2, 4, 1, 3, 5, 6, 7};
@@ -80,7 +100,7 @@ int main(void) {
     for (int i = 0; i < 8; i++)
         fx[6 + 2 * i] = compressor[i];
     clock_gettime(CLOCK_MONOTONIC, &from);
-    Analog board = rytm_fresh(RYTM_DEFAULT_SEED, false);
+    Analog board = rytm_fresh(RYTM_DEFAULT_SEED, false), asked = board;
     for (int n = 0; n < STEPS; n++) {
         if (n == 0 || n == COMMANDS)
             hit(n == 0);
@@ -92,6 +112,7 @@ int main(void) {
                 printf("the copy is refused by %u\n", (unsigned)r.number);
                 return 1;
             }
+            asked = board;
         }
         Answer a = rytm_step(board, frame, sizeof frame, dac, 16, fx, sizeof fx, 0.25f, -0.25f, 0.0f, 0.0f);
         if (a.number != 0) {
@@ -108,6 +129,10 @@ int main(void) {
         printf("word %2d peak %7d\n", i, (int)peak[i]);
     for (int i = 0; i < 12; i++)
         printf("step %d copied %2d %8d\n", COPIED, i, (int)copy[i]);
+    faults();
+    for (uint32_t v = 0; v < 8; v++)
+        for (int right = 0; right < 2; right++)
+            tell(v, right, rytm_why(asked, frame, sizeof frame, dac, 16, fx, sizeof fx, 0.25f, -0.25f, 0.0f, 0.0f, v, right));
     double took = (double)(to.tv_sec - from.tv_sec) + (double)(to.tv_nsec - from.tv_nsec) / 1e9;
     printf("a second of sound in %.3f s\n", took);
     return 0;

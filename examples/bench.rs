@@ -1,10 +1,10 @@
 //! One second of sound from one hit of every voice: the peak of each receive word, one step's words as the firmware copies them,
-//! and the time it took.
+//! what each voice adds to the mix in that step, or why it adds nothing, with three faults made, and the time it took.
 
 #[allow(dead_code)]
 mod rytm;
 
-use rytm::Board;
+use rytm::{Board, Reason, Side};
 
 const STEPS: usize = 48_000;
 const COMMANDS: usize = 64;
@@ -70,6 +70,26 @@ impl Frame {
         }
         f
     }
+
+    /// BD off the main bus, SD's right VCA word 0, MT's left amp let down.
+    fn faults(&mut self) {
+        self.0[166] |= 8;
+        self.word(30, 0);
+        self.record(208, 0, 0, -128, 0xB, 0);
+    }
+}
+
+fn tell(voice: u32, side: &str, why: Result<Reason, u32>) {
+    print!("voice {voice} {side:5} ");
+    match why {
+        Ok(Reason::RoutedOff) => println!("routed off"),
+        Ok(Reason::AmpDown(level)) => println!("amp level {level:.3}"),
+        Ok(Reason::VcaZero) => println!("VCA word 0"),
+        Ok(Reason::FilteredZero(cutoff)) => println!("filtered sample zero, cutoff {cutoff:.3} Hz"),
+        Ok(Reason::LostToRounding) => println!("lost to rounding"),
+        Ok(Reason::Heard(added)) => println!("heard, {added:.6}"),
+        Err(number) => println!("refused by {number}"),
+    }
 }
 
 fn main() {
@@ -80,6 +100,7 @@ fn main() {
     let (mut frame, mut dac, mut peak, mut copy) = (Frame::hit(true), [0; 16], [0; 12], [0; 12]);
     let from = std::time::Instant::now();
     let mut board = Board::fresh(rytm::DEFAULT_SEED, false);
+    let mut asked = board;
     for n in 0..STEPS {
         if n == COMMANDS {
             frame = Frame::hit(false);
@@ -93,6 +114,7 @@ fn main() {
                 println!("the copy is refused by {}", copied.number);
                 std::process::exit(1);
             }
+            asked = board;
         }
         let step = board.step(&frame.0, &dac, &fx, [0.25, -0.25], [0.0, 0.0]);
         if step.number != 0 {
@@ -109,6 +131,12 @@ fn main() {
     }
     for (i, w) in copy.iter().enumerate() {
         println!("step {COPIED} copied {i:2} {w:8}");
+    }
+    frame.faults();
+    for voice in 0..8 {
+        for (side, name) in [(Side::Left, "left"), (Side::Right, "right")] {
+            tell(voice, name, asked.why(&frame.0, &dac, &fx, [0.25, -0.25], [0.0, 0.0], voice, side));
+        }
     }
     println!("a second of sound in {took:.3} s");
 }

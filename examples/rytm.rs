@@ -1,4 +1,4 @@
-//! The Analog Rytm's voice board: a safe wrapper of the static library (libboard_c.a, and libcurves_c.a beside it).
+//! The Analog Rytm's voice board: a safe wrapper of the static libraries (libboard_c.a, for `Board::why` libwhy_c.a too, and libcurves_c.a beside them).
 //! The structures are those of include/rytm.h.
 
 /// The random sequence; depth 0 with ideal components.
@@ -160,6 +160,15 @@ pub struct Received {
     pub board: Analog,
 }
 
+/// Number 0, reason and value; or the number of a refusal.
+#[repr(C)]
+#[derive(Clone, Copy, Debug)]
+pub struct Why {
+    pub number: u32,
+    pub reason: u32,
+    pub value: f32,
+}
+
 extern "C" {
     fn rytm_fresh(seed: u32, ideal: bool) -> Analog;
     fn rytm_step(
@@ -192,6 +201,21 @@ extern "C" {
         dest: *mut i32,
         dest_len: usize,
     ) -> Received;
+    fn rytm_why(
+        board: Analog,
+        frame: *const u8,
+        frame_len: usize,
+        dac: *const i32,
+        dac_len: usize,
+        fx: *const u8,
+        fx_len: usize,
+        audio_l: f32,
+        audio_r: f32,
+        ext_l: f32,
+        ext_r: f32,
+        voice: u32,
+        right: bool,
+    ) -> Why;
 }
 
 /// A board's seed where none is given.
@@ -213,6 +237,29 @@ pub struct ReceivedStep {
     /// 0, or the number of the refusal.
     pub number: u32,
     pub mix: Mix,
+}
+
+/// A side of the mix.
+#[derive(Clone, Copy, Debug, PartialEq)]
+pub enum Side {
+    Left,
+    Right,
+}
+
+/// Why a voice adds nothing to a side of the mix: the first of these that is true, or heard where none is.
+#[derive(Clone, Copy, Debug, PartialEq)]
+pub enum Reason {
+    RoutedOff,
+    /// The side's amp level, after its tick, is at or below 0: that level.
+    AmpDown(f32),
+    /// The side's VCA word is 0.
+    VcaZero,
+    /// The filtered sample is 0: the cutoff in Hz that the filter's tangent takes.
+    FilteredZero(f32),
+    /// What it adds is 0 all the same.
+    LostToRounding,
+    /// What it adds.
+    Heard(f32),
 }
 
 /// A board that steps.
@@ -257,5 +304,25 @@ impl Board {
         let answer = unsafe { rytm_receive(self.state, f, fl, d, dl, p, pl, audio[0], audio[1], ext[0], ext[1], s, sl, to, tl) };
         self.state = answer.board;
         ReceivedStep { number: answer.number, mix: answer.mix }
+    }
+
+    /// Why a voice, 0 to 7, adds nothing to a side of the mix in a step of these arguments, or the number of the refusal. No
+    /// step is made.
+    #[allow(clippy::too_many_arguments)]
+    pub fn why(&self, frame: &[u8], dac: &[i32], fx: &[u8], audio: [f32; 2], ext: [f32; 2], voice: u32, side: Side) -> Result<Reason, u32> {
+        let (f, d, p, right) = (frame.as_ptr(), dac.as_ptr(), fx.as_ptr(), side == Side::Right);
+        let (fl, dl, pl) = (frame.len(), dac.len(), fx.len());
+        // Each pointer goes with its slice's length; nothing lent is written or kept.
+        let why = unsafe { rytm_why(self.state, f, fl, d, dl, p, pl, audio[0], audio[1], ext[0], ext[1], voice, right) };
+        match why.reason {
+            _ if why.number != 0 => Err(why.number),
+            1 => Ok(Reason::RoutedOff),
+            2 => Ok(Reason::AmpDown(why.value)),
+            3 => Ok(Reason::VcaZero),
+            4 => Ok(Reason::FilteredZero(why.value)),
+            5 => Ok(Reason::LostToRounding),
+            6 => Ok(Reason::Heard(why.value)),
+            _ => unreachable!("the library gives no other reason"),
+        }
     }
 }

@@ -1,4 +1,4 @@
-/* The Analog Rytm's voice board. Link libboard_c.a, then libcurves_c.a. */
+/* The Analog Rytm's voice board. Link libboard_c.a, for rytm_why libwhy_c.a too, then libcurves_c.a. */
 #ifndef RYTM_H
 #define RYTM_H
 
@@ -97,6 +97,21 @@ typedef struct {
     Analog board;
 } Received;
 
+/* Why a voice adds nothing to a side of the mix: the first of these that is true, or heard where none is. */
+enum {
+    RYTM_ROUTED_OFF = 1,
+    RYTM_AMP_DOWN,         /* the side's amp level, after its tick, is at or below 0 */
+    RYTM_VCA_ZERO,         /* the side's VCA word is 0 */
+    RYTM_FILTERED_ZERO,    /* the filtered sample is 0 */
+    RYTM_LOST_TO_ROUNDING, /* what it adds is 0 all the same */
+    RYTM_HEARD
+};
+
+/* The answer. number as a step's, and after 5: 11 a voice above 7; a refusal has reason 0 and value 0. value: the amp level
+   with RYTM_AMP_DOWN, the cutoff in Hz that the filter's tangent takes with RYTM_FILTERED_ZERO, what the voice adds to the
+   side's mix with RYTM_HEARD, else 0. */
+typedef struct { uint32_t number; uint32_t reason; float value; } Why;
+
 /* A board's seed where none is given. */
 #define RYTM_DEFAULT_SEED UINT32_C(0x2545F491)
 
@@ -113,6 +128,12 @@ Answer rytm_step(Analog board, const uint8_t *frame, size_t frame_len, const int
 Received rytm_receive(Analog board, const uint8_t *frame, size_t frame_len, const int32_t *dac, size_t dac_len,
                       const uint8_t *fx, size_t fx_len, float audio_l, float audio_r, float ext_l, float ext_r,
                       const uint8_t *slots, size_t slots_len, int32_t *dest, size_t dest_len);
+
+/* Why this voice, 0 to 7, adds nothing to a side of the mix in a step of these arguments: to the left side, or with right true
+   to the right one. No step is made; nothing lent is written. */
+Why rytm_why(Analog board, const uint8_t *frame, size_t frame_len, const int32_t *dac, size_t dac_len,
+             const uint8_t *fx, size_t fx_len, float audio_l, float audio_r, float ext_l, float ext_r,
+             uint32_t voice, bool right);
 
 /* 2 to the power x. */
 float rytm_exp2(float x);

@@ -7,13 +7,15 @@
 //!     --recording FILE    the steps of a recording (edition 1) instead; a bad one ends with status 2
 //!     --print             of each step of the recording the Rust's answer: outcome, twelve words, mix bit patterns
 //!     --receive           each generated step by the call that copies its words, with slot tables and destinations of every kind
+//!     --why               before each step the port is asked of every voice and side why it adds nothing; in half of the patterns some voices
+//!                         all but fall silent
 //!     --record FILE       writes a recording of N generated steps of all styles (at most 4096), and compares nothing
 //!
 //! What a request changes is counted by itself where the oracle (tools/oracle) is without it: of R-3 the FM phases, which have to be all that it met; of R-5 the
 //! steps whose mix differs, each of which has to be one with a chain whose sides are apart, and if generated steps met such a chain there have to be some. A step
 //! that differs in anything else is a difference.
 //!
-//! Links board_c curves_c.
+//! Links board_c why_c curves_c.
 
 #[path = "../target/oracle/mod.rs"]
 mod oracle;
@@ -35,8 +37,12 @@ mod states;
 
 #[path = "board/boards.rs"]
 mod boards;
+#[path = "board/case.rs"]
+mod case;
 #[path = "board/desk.rs"]
 mod desk;
+#[path = "board/faint.rs"]
+mod faint;
 #[path = "board/met.rs"]
 mod met;
 #[path = "board/receive.rs"]
@@ -47,18 +53,22 @@ mod recording;
 mod sides;
 #[path = "board/strips.rs"]
 mod strips;
+#[path = "board/why.rs"]
+mod why;
 
+use case::Case;
 use desk::Desk;
+use faint::Faint;
 use fields::{bits, Names};
 use frames::{Style, STYLES};
 use met::{Count, Met};
 use oracle::analog as rust;
-use oracle::counted;
+use oracle::{counted, told};
 use receive::{Lent, Sides};
 use recording::{Recording, Writer};
 use rng::Rng;
 use rytm::{Analog, Answer, Board, Mix};
-use sides::Case;
+use why::Questions;
 
 /// One board on both sides.
 struct Twin {
@@ -81,13 +91,16 @@ struct Report {
     mixes: u64,
     met: Met,
     copies: receive::Met,
+    /// Where the port is asked why a voice adds nothing.
+    questions: Option<Questions>,
     /// Curve calls, of boards that came from fresh ones and of random ones.
     curves: [[counted::Count; counted::NAMES.len()]; 2],
 }
 
 impl Report {
-    fn new() -> Report {
-        Report { steps: 0, differ: 0, of: Vec::new(), phases: 0, mixes: 0, met: Met::new(), copies: receive::Met::new(), curves: [counted::take(); 2] }
+    fn new(questions: Option<Questions>) -> Report {
+        let (met, copies, curves) = (Met::new(), receive::Met::new(), [counted::take(); 2]);
+        Report { steps: 0, differ: 0, of: Vec::new(), phases: 0, mixes: 0, met, copies, questions, curves }
     }
 
     /// Takes the counts of the curve calls since the last time.
@@ -156,6 +169,7 @@ impl Report {
     fn step(&mut self, twin: &mut Twin, case: &Case, copy: Option<&Lent>, place: &str) -> Answer {
         let before = twin.board;
         let lent = (case.frame.to_vec(), case.dac.to_vec(), case.fx.to_vec());
+        let asked = self.questions.as_mut().map(|q| q.ask(&twin.port, case));
         let Sides { port: ours, rust: theirs, same, raw } = match copy {
             Some(copy) => receive::call(&mut twin.port, &mut twin.rust, case, copy, &mut self.copies),
             None => {
@@ -191,6 +205,14 @@ impl Report {
             }
             self.differ += 1;
         }
+        if let (Some(q), Some(asked)) = (&mut self.questions, asked) {
+            let first = q.differ == 0;
+            let wrong = q.compare(&asked, case, &told::take(), twin.random);
+            if first && !wrong.is_empty() {
+                tell();
+                wrong.iter().for_each(|text| println!("  {text}"));
+            }
+        }
         theirs
     }
 
@@ -199,6 +221,9 @@ impl Report {
             self.met.print();
             if copies {
                 self.copies.print();
+            }
+            if let Some(q) = &self.questions {
+                q.print();
             }
             self.print_curves();
         }
@@ -216,9 +241,10 @@ impl Report {
             println!("steps whose mix differs: {}, of {apart} with a chain whose sides are apart", self.mixes);
         }
         let these = if oracle::R3 && oracle::R5 { "" } else { " but these" };
-        println!("compared {} steps: {} differences{these}", self.steps, self.differ);
+        let (questions, wrong, unmet) = self.questions.as_ref().map_or((String::new(), 0, false), |q| q.end(self.steps, generated));
+        println!("compared {} steps{questions}: {} differences{these}", self.steps, self.differ + wrong);
         let unheard = !oracle::R5 && generated && apart > 0 && self.mixes == 0;
-        std::process::exit((self.differ != 0 || !oracle::R3 && self.phases != ones || unheard) as i32);
+        std::process::exit((self.differ + wrong != 0 || !oracle::R3 && self.phases != ones || unheard || unmet) as i32);
     }
 }
 
@@ -251,6 +277,8 @@ fn stuck(b: &Analog) -> bool {
 fn generated(report: &mut Report, steps: u64, seed: u64, copies: bool) {
     let mut rng = Rng::new(seed);
     let rng = &mut rng;
+    // What fades is drawn apart: nothing else depends on it.
+    let mut fades = Rng::new(!seed);
     let mut episode = 0;
     while report.steps < steps {
         let (style, name) = STYLES[(episode % 5) as usize];
@@ -261,11 +289,19 @@ fn generated(report: &mut Report, steps: u64, seed: u64, copies: bool) {
         let (seed, ideal) = (rng.pick(&[0, 1, rytm::DEFAULT_SEED, any, any]), rng.one_in(4));
         let mut desk = Desk::new(rng, style, tempo);
         let mut twin = report.fresh(seed, ideal);
-        let place = format!("episode {episode}, {name}, board seed {seed}, ideal {ideal}");
+        let mut faint = (report.questions.is_some() && fades.one_in(2)).then(|| Faint::new(Rng::new(fades.next())));
+        let fading = if faint.is_some() { ", fading voices" } else { "" };
+        let place = format!("episode {episode}, {name}{fading}, board seed {seed}, ideal {ideal}");
         for _ in 0..(length as u64).min(steps - report.steps) {
             desk.step(rng);
+            if let Some(faint) = &mut faint {
+                faint.step(&mut desk);
+            }
             if style == Style::States && rng.one_in(8) {
-                let board = boards::random(rng, &desk.frames.frame);
+                let mut board = boards::random(rng, &desk.frames.frame);
+                if let Some(faint) = &mut faint {
+                    faint.board(&mut board);
+                }
                 report.tally(twin.random);
                 twin = Twin { port: Board::of(board), rust: board.rust(), board, random: true };
                 report.met.add(Count::Random, true);
@@ -322,7 +358,7 @@ fn stop(why: &str) -> ! {
 }
 
 fn main() {
-    let (mut steps, mut seed, mut file, mut print, mut to, mut copies) = (2_000_000, 1, None, false, None, false);
+    let (mut steps, mut seed, mut file, mut print, mut to, mut copies, mut why) = (2_000_000, 1, None, false, None, false, false);
     let mut words = std::env::args().skip(1);
     while let Some(word) = words.next() {
         let mut value = || words.next().unwrap_or_else(|| stop(&format!("{word}: a value is missing")));
@@ -333,18 +369,25 @@ fn main() {
             "--recording" => file = Some(value()),
             "--print" => print = true,
             "--receive" => copies = true,
+            "--why" => why = true,
             "--record" => to = Some(value()),
-            _ => stop("options: --steps N --seed S [--receive | --record FILE] | --recording FILE [--print]"),
+            _ => stop("options: --steps N --seed S [--receive | --why | --record FILE] | --recording FILE [--print | --why]"),
         }
     }
     if copies && (file.is_some() || to.is_some()) {
         stop("--receive is for generated steps that are compared");
     }
+    if why && (copies || print || to.is_some()) {
+        stop("--why is for steps that are compared, and by itself");
+    }
+    if why && !oracle::R5 {
+        stop("--why asks of each side by its own amp level: not --without R-5");
+    }
     if let Some(to) = to {
         return record(&to, steps, seed);
     }
     println!("{}", oracle::ABOUT);
-    let mut report = Report::new();
+    let mut report = Report::new(why.then(|| Questions::new(Rng::new(seed.rotate_left(32)))));
     let generate = file.is_none();
     match file {
         Some(file) => recorded(&mut report, &file, print),

@@ -15,6 +15,9 @@ mod oracle;
 mod rytm;
 
 #[allow(dead_code)]
+#[path = "board/case.rs"]
+mod case;
+#[allow(dead_code)]
 #[path = "board/desk.rs"]
 mod desk;
 #[allow(dead_code)]

@@ -14,6 +14,9 @@ mod oracle;
 mod rytm;
 
 #[allow(dead_code)]
+#[path = "board/case.rs"]
+mod case;
+#[allow(dead_code)]
 #[path = "sources/fields.rs"]
 mod fields;
 #[allow(dead_code)]

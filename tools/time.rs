@@ -14,6 +14,9 @@ mod own;
 mod rytm;
 
 #[allow(dead_code)]
+#[path = "board/case.rs"]
+mod case;
+#[allow(dead_code)]
 #[path = "board/desk.rs"]
 mod desk;
 #[allow(dead_code)]
@@ -33,10 +36,10 @@ mod state;
 #[path = "board/strips.rs"]
 mod strips;
 
+use case::Case;
 use desk::Desk;
 use frames::Style;
 use rng::Rng;
-use sides::Case;
 use std::time::Instant;
 
 const SEED: u32 = rytm::DEFAULT_SEED;

@@ -1,8 +1,8 @@
 //! Generated steps: frame, DAC words, FX parameters and inputs, and what makes a step refused.
 
+use crate::case::{Case, HIGH, LOW};
 use crate::frames::{Frames, Style};
 use crate::rng::Rng;
-use crate::sides::{Case, HIGH, LOW};
 use crate::state::{Source, SOURCES};
 use crate::strips::{compressor, master, sort_noise, Strip};
 
@@ -20,7 +20,7 @@ pub struct Desk {
     fx: [u8; 40],
     fx_len: usize,
     fx_usual: usize,
-    dac: [i32; 20],
+    pub dac: [i32; 20],
     dac_len: usize,
     inputs: [f32; 4],
 }

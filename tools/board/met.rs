@@ -1,9 +1,9 @@
 //! What the steps met, read off their inputs and off the Rust's boards before and after.
 
+use crate::case::{Case, HIGH, LOW};
 use crate::coverage::Coverage;
 use crate::oracle::analog as rust;
 use crate::rytm::{Analog, Answer, Chain, SegEnv};
-use crate::sides::{Case, HIGH, LOW};
 use crate::state::State;
 use crate::strips::AMP_ENV_R;
 

@@ -1,9 +1,10 @@
 //! The call that copies the receive words, on the two sides: slot tables and destinations, and the copy as the source's words say it.
 
+use crate::case::Case;
 use crate::oracle::analog as rust;
 use crate::rng::Rng;
 use crate::rytm::{Analog, Answer, Board, Mix};
-use crate::sides::{self, Case};
+use crate::sides;
 
 /// A destination has at most so many words; as many around it have to stay as they are.
 const ROOM: usize = 24;

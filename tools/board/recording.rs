@@ -1,6 +1,6 @@
 //! Recordings in edition 1 of document 02's first request.
 
-use crate::sides::Case;
+use crate::case::Case;
 
 pub struct Recording {
     pub seed: u32,

@@ -83,9 +83,9 @@ static void tell(uint32_t voice, bool right, Why w) {
     printf("voice %u %-5s ", (unsigned)voice, right ? "right" : "left");
     switch (w.reason) {
     case RYTM_ROUTED_OFF: printf("routed off\n"); break;
-    case RYTM_AMP_DOWN: printf("amp level %.3f\n", w.value); break;
+    case RYTM_AMP_DOWN: printf("amp level %.6f\n", w.value); break;
     case RYTM_VCA_ZERO: printf("VCA word 0\n"); break;
-    case RYTM_FILTERED_ZERO: printf("filtered sample zero, cutoff %.3f Hz\n", w.value); break;
+    case RYTM_FILTERED_ZERO: printf("filtered sample zero, cutoff %.6f Hz\n", w.value); break;
     case RYTM_LOST_TO_ROUNDING: printf("lost to rounding\n"); break;
     case RYTM_HEARD: printf("heard, %.6f\n", w.value); break;
     default: printf("refused by %u\n", (unsigned)w.number);

@@ -82,12 +82,7 @@ impl Frame {
 fn tell(voice: u32, side: &str, why: Result<Reason, u32>) {
     print!("voice {voice} {side:5} ");
     match why {
-        Ok(Reason::RoutedOff) => println!("routed off"),
-        Ok(Reason::AmpDown(level)) => println!("amp level {level:.3}"),
-        Ok(Reason::VcaZero) => println!("VCA word 0"),
-        Ok(Reason::FilteredZero(cutoff)) => println!("filtered sample zero, cutoff {cutoff:.3} Hz"),
-        Ok(Reason::LostToRounding) => println!("lost to rounding"),
-        Ok(Reason::Heard(added)) => println!("heard, {added:.6}"),
+        Ok(reason) => println!("{reason:.6}"),
         Err(number) => println!("refused by {number}"),
     }
 }

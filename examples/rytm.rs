@@ -262,6 +262,23 @@ pub enum Reason {
     Heard(f32),
 }
 
+/// In words: `amp level -128`, or with `{:.3}` so many places.
+impl std::fmt::Display for Reason {
+    fn fmt(&self, f: &mut std::fmt::Formatter) -> std::fmt::Result {
+        let (words, value, unit) = match self {
+            Reason::RoutedOff => return write!(f, "routed off"),
+            Reason::AmpDown(level) => ("amp level ", level, ""),
+            Reason::VcaZero => return write!(f, "VCA word 0"),
+            Reason::FilteredZero(cutoff) => ("filtered sample zero, cutoff ", cutoff, " Hz"),
+            Reason::LostToRounding => return write!(f, "lost to rounding"),
+            Reason::Heard(added) => ("heard, ", added, ""),
+        };
+        f.write_str(words)?;
+        std::fmt::Display::fmt(value, f)?;
+        f.write_str(unit)
+    }
+}
+
 /// A board that steps.
 #[derive(Clone, Copy, Debug)]
 pub struct Board {

@@ -109,7 +109,7 @@ enum {
 
 /* The answer. number as a step's, and after 5: 11 a voice above 7; a refusal has reason 0 and value 0. value: the amp level
    with RYTM_AMP_DOWN, the cutoff in Hz that the filter's tangent takes with RYTM_FILTERED_ZERO, what the voice adds to the
-   side's mix with RYTM_HEARD, else 0. */
+   side's mix with RYTM_HEARD, which can be infinite, else 0. */
 typedef struct { uint32_t number; uint32_t reason; float value; } Why;
 
 /* A board's seed where none is given. */
@@ -130,7 +130,7 @@ Received rytm_receive(Analog board, const uint8_t *frame, size_t frame_len, cons
                       const uint8_t *slots, size_t slots_len, int32_t *dest, size_t dest_len);
 
 /* Why this voice, 0 to 7, adds nothing to a side of the mix in a step of these arguments: to the left side, or with right true
-   to the right one. No step is made; nothing lent is written. */
+   to the right one; any value but 0 that is passed for a bool is true. No step is made; nothing lent is written. */
 Why rytm_why(Analog board, const uint8_t *frame, size_t frame_len, const int32_t *dac, size_t dac_len,
              const uint8_t *fx, size_t fx_len, float audio_l, float audio_r, float ext_l, float ext_r,
              uint32_t voice, bool right);

@@ -17,7 +17,7 @@ use recording::Recording;
 use rytm::{Board, Reason, Side};
 use std::io::Write;
 
-const VOICES: [&str; 8] = ["BD", "BT", "SD", "LT", "CH/OH", "MT/HT", "CY/CB", "RS/CP"];
+const VOICES: [&str; 8] = ["BD", "BT", "SD", "LT", "hat", "MT", "cymbal", "RS"];
 const SIDES: [(Side, &str); 2] = [(Side::Left, "left"), (Side::Right, "right")];
 /// What each number is refused because of.
 const REFUSED: [&str; 9] = [
@@ -63,19 +63,8 @@ impl Tally {
     fn words(&self) -> String {
         let mut silent = self.silent;
         silent.sort_by_key(|(steps, _)| std::cmp::Reverse(*steps));
-        let words = silent.iter().filter_map(|(steps, last)| last.map(|reason| format!("{} ({steps})", words(reason))));
+        let words = silent.iter().filter_map(|(steps, last)| last.map(|reason| format!("{reason} ({steps})")));
         words.collect::<Vec<_>>().join("; ")
-    }
-}
-
-fn words(reason: Reason) -> String {
-    match reason {
-        Reason::RoutedOff => "routed off".to_string(),
-        Reason::AmpDown(level) => format!("amp level {level}"),
-        Reason::VcaZero => "VCA word 0".to_string(),
-        Reason::FilteredZero(cutoff) => format!("filtered sample zero, cutoff {cutoff} Hz"),
-        Reason::LostToRounding => "lost to rounding".to_string(),
-        Reason::Heard(added) => format!("heard, {added}"),
     }
 }
 
@@ -120,9 +109,9 @@ fn lines(recording: &Recording) -> Vec<String> {
 }
 
 fn main() {
-    let given: Vec<String> = std::env::args().skip(1).collect();
+    let given: Vec<std::ffi::OsString> = std::env::args_os().skip(1).collect();
     let [file] = &given[..] else { stop("usage: tools/why RECORDING", 2) };
-    let bytes = std::fs::read(file).unwrap_or_else(|e| stop(&format!("{file}: {e}"), 1));
+    let bytes = std::fs::read(file).unwrap_or_else(|e| stop(&format!("{}: {e}", file.to_string_lossy()), 1));
     let lines = match Recording::read(&bytes) {
         Ok(recording) => lines(&recording),
         Err((number, _)) => vec![format!("the recording is refused by {number}: {}", REFUSED[number as usize])],

@@ -90,9 +90,10 @@ enum Kind {
     CutoffMost,
     Infinite,
     NoNumber,
+    Zeros,
 }
 
-const KINDS: [&str; 8] = [
+const KINDS: [&str; 9] = [
     "voices whose sides have different reasons",
     "amp level 0",
     "amp level below 0",
@@ -101,6 +102,7 @@ const KINDS: [&str; 8] = [
     "filtered sample zero, cutoff 21600 Hz",
     "heard, infinite",
     "heard, not a number",
+    "another reason, contribution not a number",
 ];
 
 pub struct Questions {
@@ -159,7 +161,7 @@ impl Questions {
             self.note(a, &expected, told, random);
             let differs = [Some(a.why), a.wrapped].into_iter().flatten().find(|why| row(why) != row(&expected));
             // No board that calls reach from a fresh one adds what is not a number.
-            let unheard = expected.value.is_nan() && !random;
+            let unheard = !random && expected.number == 0 && told[a.voice as usize].added[a.side].is_some_and(f32::is_nan);
             if differs.is_some() || unheard {
                 let (ours, side) = (differs.unwrap_or(a.why), SIDES[a.side].1);
                 wrong.push(format!("voice {} {side}: port {}; by the Rust {}", a.voice, show(&ours), show(&expected)));
@@ -180,6 +182,7 @@ impl Questions {
             return;
         }
         let told = &told[a.voice as usize];
+        let adds = told.added[a.side].unwrap_or(0.0);
         self.reasons[random as usize][expected.reason as usize - 1][a.side][a.voice as usize] += 1;
         let mut add = |kind: Kind, met: bool| self.kinds[kind as usize][random as usize] += met as u64;
         match expected.reason {
@@ -195,20 +198,32 @@ impl Questions {
             }
             _ => {}
         }
+        add(Kind::Zeros, expected.reason != 6 && adds.is_nan());
     }
 
-    /// What of reason, side and voice was not met, on the boards of one kind or on all.
-    fn missing(&self, of: &[usize]) -> Vec<String> {
-        let met = |r: usize, s: usize, v: usize| of.iter().any(|&b| self.reasons[b][r][s][v] > 0);
+    /// What of reason, side and voice was not met on the boards of one kind.
+    fn missing(&self, boards: usize) -> Vec<String> {
         let all = (0..6).flat_map(|r| (0..2).flat_map(move |s| (0..8).map(move |v| (r, s, v))));
-        all.filter(|&(r, s, v)| !met(r, s, v)).map(|(r, s, v)| format!("voice {v} {}, {}", SIDES[s].1, REASONS[r])).collect()
+        let missing = all.filter(|&(r, s, v)| self.reasons[boards][r][s][v] == 0);
+        missing.map(|(r, s, v)| format!("voice {v} {}, {} on {}", SIDES[s].1, REASONS[r], BOARDS[boards])).collect()
+    }
+
+    /// What a run that is long enough has to meet and this one did not: every reason on every voice and side of boards that came from fresh ones, every
+    /// refusal of the questions, also of voices above 7, and sides with different reasons.
+    fn unmet(&self) -> Vec<String> {
+        let numbers = [1, 2, 3, 4, 5, 11];
+        let never = numbers.iter().filter(|&&n| self.refused[n] == 0).map(|n| format!("a question refused by {n}"));
+        let past = numbers.iter().filter(|&&n| self.past[n] == 0).map(|n| format!("a voice above 7 refused by {n}"));
+        let apart = (self.kinds[Kind::Apart as usize][0] == 0).then(|| KINDS[Kind::Apart as usize].to_string());
+        self.missing(0).into_iter().chain(never).chain(past).chain(apart).collect()
     }
 
     /// The end of the run: its questions, differences among them, and whether it was long enough to meet what it did not.
     pub fn end(&self, steps: u64, generated: bool) -> (String, u64, bool) {
-        let missing = self.missing(&[0, 1]).len();
-        println!("reasons by voice and side: {} of 96 met", 96 - missing);
-        (format!(", {} questions", self.asked), self.differ, generated && steps >= ENOUGH && missing > 0)
+        println!("reasons by voice and side on {}: {} of 96 met", BOARDS[0], 96 - self.missing(0).len());
+        let fails = generated && steps >= ENOUGH && !self.unmet().is_empty();
+        let short = if fails { format!(" ({} of what it has to meet not met)", self.unmet().len()) } else { String::new() };
+        (format!(", {} questions{short}", self.asked), self.differ, fails)
     }
 
     pub fn print(&self) {
@@ -233,19 +248,11 @@ impl Questions {
         for (name, counts) in KINDS.iter().zip(&self.kinds) {
             println!("{name:50}{}", counts.map(|n| format!("{n:>34}")).concat());
         }
-        let refused = |numbers: &[usize]| -> Vec<String> {
-            let never = numbers.iter().filter(|&&n| self.refused[n] == 0).map(|n| format!("a question refused by {n}"));
-            never.chain(numbers.iter().filter(|&&n| self.past[n] == 0).map(|n| format!("a voice above 7 refused by {n}"))).collect()
-        };
-        let mut never = self.missing(&[0, 1]);
-        never.extend(refused(&[1, 2, 3, 4, 5, 11]));
-        never.extend(KINDS.iter().zip(&self.kinds).filter(|(_, n)| n[0] + n[1] == 0).map(|(name, _)| name.to_string()));
+        let mut never = self.unmet();
+        never.extend(KINDS.iter().zip(&self.kinds).skip(1).filter(|(_, n)| n[0] + n[1] == 0).map(|(name, _)| name.to_string()));
+        never.extend(self.missing(1));
         if !never.is_empty() {
             println!("never met: {}", never.join("; "));
-        }
-        let fresh = self.missing(&[0]);
-        if !fresh.is_empty() {
-            println!("never met on {}: {}", BOARDS[0], fresh.join("; "));
         }
     }
 }

@@ -2,7 +2,7 @@
 #![tactic(auto)]
 
 // Why a call is refused: a step by the first five, a recording by the next three, a step whose words are copied by the next two beside the first five, a question about a voice by the last beside
-// these five.
+// the first five.
 #[derive(Clone, Copy, PartialEq, Eq)]
 pub enum Refusal {
     ShortFrame = 1,

@@ -18,7 +18,7 @@ use Rattle.chain.specs.declared.Chain.{Chain}
 use Rattle.chain.specs.Chain.{no_chain, process_of}
 use Rattle.bus.specs.declared.Bus.{Bus}
 use Rattle.bus.specs.Bus.{input_of, contribution_of, added_of, turn_of, voices_of, sample_of, sum_of, EachSideAlone}
-use Rattle.bus.proofs.Kept.{ChainBy, turn}
+use Rattle.bus.proofs.Kept.{Fed, turn}
 
 -- a side of a mix that a voice is added to or kept from
 pub pushed : (g : Mix → Float) (off : Bool) (m n : Mix) → g (cond off m n) ≡ cond off (g m) (g n)
@@ -35,7 +35,7 @@ module _ (f : List ℕ) (dac : List ℤ) (src : List Float) (chains : List Chain
   -- turn n takes the sample of the chain that was given
   own : (n : ℕ) → (process_of f n (input_of dac src n) (get_or (after n).chains n no_chain)).y ≡ (sample_of f dac src chains n).y
   unfolding sample_of
-  own n = ap (λ (c : Chain). (process_of f n (input_of dac src n) c).y) (turns_later (λ (b : Bus). b.chains) no_chain (ChainBy f) (turn_of f dac src) (turn f dac src chains) start n n (le_refl n))
+  own n = ap (λ (c : Chain). (process_of f n (input_of dac src n) c).y) (turns_later (λ (b : Bus). b.chains) no_chain (Fed f dac src chains) (turn_of f dac src) (turn f dac src chains) start n n (le_refl n))
 
   sums : (n : ℕ) → ((after n).mix.l ≡ sum_of f VCA_L (λ v. (sample_of f dac src chains v).y.l) n) × ((after n).mix.r ≡ sum_of f VCA_R (λ v. (sample_of f dac src chains v).y.r) n)
   unfolding turns_of turn_of added_of sum_of

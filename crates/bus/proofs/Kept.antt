@@ -16,7 +16,7 @@ use Rattle.lists.proofs.Sweep.{turns_keep, set_keeps_read, Turn, turns_length, t
 use Rattle.chain.specs.declared.Chain.{Chain}
 use Rattle.chain.specs.Chain.{no_chain, process_of}
 use Rattle.bus.specs.declared.Bus.{Bus}
-use Rattle.bus.specs.Bus.{input_of, turn_of, voices_of, InWordRange}
+use Rattle.bus.specs.Bus.{input_of, turn_of, voices_of, sample_of, InWordRange}
 
 -- ---- each chain by its own sample
 pub record ChainBy (f : List ℕ) (v : ℕ) (old new : Chain) : Type 0 where
@@ -24,17 +24,24 @@ pub record ChainBy (f : List ℕ) (v : ℕ) (old new : Chain) : Type 0 where
   pub is : new ≡ (process_of f v x old).chain
 
 module _ (f : List ℕ) (dac : List ℤ) (src : List Float) (chains : List Chain) where
-  pub turn : (v : ℕ) (b : Bus) → Turn (λ (y : Bus). y.chains) no_chain (ChainBy f) v b (turn_of f dac src v b)
+  abbrev pub Fed : ℕ → Chain → Chain → Type 0
+  Fed v old new = new ≡ (process_of f v (input_of dac src v) old).chain
+
+  pub turn : (v : ℕ) (b : Bus) → Turn (λ (y : Bus). y.chains) no_chain Fed v b (turn_of f dac src v b)
   unfolding turn_of
-  turn v b = record { put = (process_of f v (input_of dac src v) (get_or b.chains v no_chain)).chain; sets = refl; rule = record { x = input_of dac src v; is = refl } }
+  turn v b = record { put = (process_of f v (input_of dac src v) (get_or b.chains v no_chain)).chain; sets = refl; rule = refl }
 
   pub chains_long : length (voices_of f dac src chains).chains ≡ length chains
   unfolding voices_of
-  chains_long = turns_length (λ (y : Bus). y.chains) no_chain (ChainBy f) (turn_of f dac src) turn _ 8
+  chains_long = turns_length (λ (y : Bus). y.chains) no_chain Fed (turn_of f dac src) turn _ 8
+
+  pub own_chain : length chains ≡ 8 → (v : ℕ) → v < 8 → get_or (voices_of f dac src chains).chains v no_chain ≡ (sample_of f dac src chains v).chain
+  unfolding voices_of sample_of
+  own_chain e v h = turns_at (λ (y : Bus). y.chains) no_chain Fed (turn_of f dac src) turn _ 8 v h (omega arith)
 
   pub chain_by : length chains ≡ 8 → (v : ℕ) → v < 8 → ChainBy f v (get_or chains v no_chain) (get_or (voices_of f dac src chains).chains v no_chain)
-  unfolding voices_of
-  chain_by e v h = turns_at (λ (y : Bus). y.chains) no_chain (ChainBy f) (turn_of f dac src) turn _ 8 v h (omega arith)
+  unfolding sample_of
+  chain_by e v h = record { x = input_of dac src v; is = own_chain e v h }
 
 -- ---- the words
 -- a half sample put in as a word

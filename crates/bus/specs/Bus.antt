@@ -30,9 +30,12 @@ dac_f dac i = of_int binary32 (get_or dac i (pos 0)) ⊘ k8388608
 unfoldable pub return_of : List ℤ → ℕ → Float
 return_of dac i = neg (of_int binary32 (get_or dac i (pos 0))) ⊘ k8388608
 
--- "Voice v's chain takes its source plus DAC word v / 2^23 × 0.5"
+-- "Voice v's chain takes its source plus DAC word v / 2^23 × 0.5": of a source x, and of its own
+unfoldable pub fed_of : List ℤ → ℕ → Float → Float
+fed_of dac v x = x ⊕ dac_f dac v ⊗ k0p5
+
 unfoldable pub input_of : List ℤ → List Float → ℕ → Float
-input_of dac src v = get_or src v nan ⊕ dac_f dac v ⊗ k0p5
+input_of dac src v = fed_of dac v (get_or src v nan)
 
 -- what voice v adds to the side whose VCA words stand from `vca` on
 unfoldable pub contribution_of : List ℕ → ℕ → ℕ → Float → Float

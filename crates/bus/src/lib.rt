@@ -2,11 +2,9 @@
 #![tactic(auto)]
 
 ghost use Rattle.std.specs.Prelude.{◌≡◌, ◌≤◌, ◌<◌};
-ghost use Rattle.float.specs.Consts.{k0p5};
-ghost use Rattle.float.specs.Ops.{◌⊕◌, ◌⊗◌};
 ghost use Rattle.frame.specs.Offsets.{VCA_R};
 ghost use Rattle.chain.specs.Chain.{process_of};
-ghost use Rattle.bus.specs.Bus.{dac_f, return_of, contribution_of, added_of, EachSideAlone, voices_of, distort_of, master_of};
+ghost use Rattle.bus.specs.Bus.{dac_f, return_of, fed_of, contribution_of, added_of, EachSideAlone, voices_of, distort_of, master_of};
 ghost use Rattle.bus.specs.BeforeR5.{LeftAsBefore, voices_before, earlier_chains};
 
 use chain::{Chain, ChainOut};
@@ -61,9 +59,10 @@ fn added(f: &Frame, v: usize, m: Mix, y: Mix) -> Mix
 }
 
 // Voice v's sample: its source and its DAC word through its chain.
+#[tactic(auto, unfolding(crate::specs::Bus::fed_of))]
 pub fn sample(chain: Chain, f: &Frame, dac: &DacWords, v: usize, src: f32) -> ChainOut
     requires { v < 8 }
-    ensures { result ≡ process_of f.now v (src ⊕ dac_f dac.now v ⊗ k0p5) chain }
+    ensures { result ≡ process_of f.now v (fed_of dac.now v src) chain }
 {
     let x = src + dac_f32(dac, v) * 0.5;
     chain.process(f, v, x)

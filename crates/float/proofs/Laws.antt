@@ -126,7 +126,7 @@ signum_is f (inf t) s q h = absurd h
 signum_is f (fin t m e) s q h = ap (λ (u : Bool). fin u 1 (pos 0)) h.0
 
 -- ---- the sign of a zero that is added is lost, but to -0
-abbrev minus_zero : Float → Bool
+abbrev pub minus_zero : Float → Bool
 minus_zero nan = false
 minus_zero (inf s) = false
 minus_zero (fin s zero e) = s

@@ -4,6 +4,7 @@ pub mod Signs
 pub mod Cast
 pub mod Eval
 pub mod Laws
+pub mod Zeros
 pub mod Remainder
 pub mod Never
 pub mod Numbers

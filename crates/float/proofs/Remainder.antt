@@ -1,30 +1,23 @@
 -- The remainder by 1 as the code finds it: below 1 it is the number itself, below 2^23 the number less its whole part, and from there on nothing; and a number plus +0. Assumes nothing.
-use Rattle.std.proofs.Common.{◌≡◌, ℕ, suc, ◌+◌, ◌-◌, ◌*◌, ◌/◌, ◌%◌, ◌^◌, ◌<◌, ◌≤◌, min, Bool, true, false, not, T, ltb, ℤ, pos, negsuc, sym, refl, ap, ◌∙◌, subst, le_refl, add-zero, mul-le-mul_right, mod-lt, mod-eq_of_lt, mul_assoc, mul_comm, div-lt_iff_lt-mul, mul-pos, zero-mul, mul-one, mul_right_comm, arith, lit<, pow_pos, ltb-false, ltb-true, le-ltb}
+use Rattle.std.proofs.Common.{◌≡◌, ℕ, suc, ◌+◌, ◌-◌, ◌*◌, ◌/◌, ◌%◌, ◌^◌, ◌<◌, ◌≤◌, min, Bool, true, false, not, T, ltb, ℤ, pos, negsuc, sym, refl, ap, ◌∙◌, subst, le_refl, mul-le-mul_right, mod-lt, mod-eq_of_lt, mul_assoc, mul_comm, div-lt_iff_lt-mul, mul-pos, zero-mul, mul-one, mul_right_comm, arith, lit<, pow_pos, ltb-false, ltb-true, le-ltb}
 use native.Mathlib.Nat.{mod-one, sub_self, mod-add-div', add-mul-mod_self_right, pow-succ'}
-use lib.Ieee.{Float, binary32, nan, inf, fin, low, up, down, round, sum, add, sub, neg, rem, lt, fits, of_int, to_signed}
+use lib.Ieee.{Float, binary32, nan, inf, fin, low, up, down, round, sum, add, sub, neg, rem, lt, eq, fits, of_bits, of_int, to_signed}
 use lib.Ieee.Back.{round_whole}
 use lib.Ieee.Exact.{HasValue}
-use lib.Ieee.Fits.{down_pos, add-fits, rem-fits}
+use lib.Ieee.Fits.{down_pos, rem-fits}
 use lib.Ieee.Scale.{round_same}
-use Rattle.line.proofs.Units.{Is, add_is, sub_mul}
+use Rattle.line.proofs.Units.{Is, sub_mul}
 use Rattle.line.proofs.Rounds.{rep_same, exact_at}
 use Rattle.line.proofs.Exact.{value_unique}
 use Rattle.line.proofs.Mono.{Good, good_is, units_of, neg_round}
-use Rattle.line.proofs.Rem.{one, nought, nought_is, rem_is, fits_parts}
+use Rattle.line.proofs.Rem.{one, nought, rem_is, fits_parts}
 use Rattle.float.proofs.Never.{no}
+use Rattle.float.proofs.Zeros.{plus_whole, plus_zero}
 
 -- ---- adding +0 changes nothing but -0
 pub plus_nought : (m : ℕ) (e : ℤ) → T (fits binary32 (fin false m e)) → add binary32 (fin false m e) nought ≡ fin false m e
-unfolding sum
-plus_nought m e t =
-    let x = fin false m e in
-    let g : Good binary32 x = (t, tt) in
-    let q = units_of binary32 x g in
-    let i : Is binary32 x false q = good_is binary32 x g in
-    let r : add binary32 x nought ≡ round binary32 false q (2 ^ low binary32) =
-    add_is binary32 x nought false q false 0 i (nought_is binary32) ∙ ap (λ (z : ℕ). round binary32 false z (2 ^ low binary32)) (add-zero q) in
-    value_unique binary32 (add binary32 x nought) x false q (add-fits binary32 x nought) t
-    (subst (λ (z : Float). Is binary32 z false q) (sym r) (exact_at binary32 false q (rep_same binary32 x false q t i))) i
+unfolding eq fits of_bits
+plus_nought m e t = plus_zero (fin false m e) nought t (plus_whole m e) tt tt
 
 -- ---- below 1: the number itself
 own : (s : Bool) (m : ℕ) (e : ℤ) → T (fits binary32 (fin s m e)) → m * up e < down e → fin s m e ≡ rem binary32 (fin s m e) one

@@ -2,4 +2,5 @@
 pub mod Products
 pub mod First
 pub mod Step
+pub mod Silent
 pub mod Whole

@@ -8,7 +8,7 @@ use lib.Ieee.{Float, fin, binary32, neg, le, lt, eq, fits, is_nan, of_bits, of_i
 use Rattle.line.proofs.Mono.{Good}
 use Rattle.line.proofs.Range.{In, in_cond, in_self, in_wide, finite_in, largest}
 use Rattle.float.specs.Consts.{k0, k1, k127, k32767, k65535, LEVELS_PER_6DB}
-use Rattle.float.specs.Ops.{◌⊗◌, ◌⊘◌}
+use Rattle.float.specs.Ops.{◌⊗◌}
 use Rattle.float.proofs.Eval.{leaf, con, minus, times, over, range, proves}
 use Rattle.float.proofs.Numbers.{word_range, mul_number, over_number, zero_is, zero_in}
 use Rattle.envelope.specs.Levels.{Level}
@@ -16,13 +16,14 @@ use Rattle.envelope.proofs.Ranges.{level_range}
 use Rattle.power.proofs.Laws.{exp2_gain}
 use Rattle.chain.specs.Chain.{gain_of}
 use Rattle.why.specs.declared.Share.{Share}
+use Rattle.why.specs.Told.{product_of}
 
 -- what a share's figures are on a board within the ranges
 pub record Figures (p : Share) : Type 0 where
   pub filtered : Good binary32 p.filtered
   pub level : Level p.level
   pub vca : p.vca ≤ 65535
-  pub product : p.adds ≡ cond p.off k0 (p.filtered ⊗ gain_of p.level ⊗ of_int binary32 (pos p.vca) ⊘ k32767)
+  pub product : p.adds ≡ cond p.off k0 (product_of p)
 
 pub both : {X : Type 0} (b : Bool) → T b → T (not b) → X
 both true t n = absurd n
@@ -50,18 +51,18 @@ module _ (p : Share) (g : Figures p) where
   sample = range (fin true 16777215 (pos 104)) largest (times (leaf wide) (leaf (gain_in p.level g.level))) tt
 
   pub number : T (not (is_nan p.adds))
-  unfolding of_bits is_nan
+  unfolding product_of of_bits is_nan
   number = rw g.product (by p.off)
     where
-      by : (b : Bool) → T (not (is_nan (cond b k0 (p.filtered ⊗ gain_of p.level ⊗ of_int binary32 (pos p.vca) ⊘ k32767))))
+      by : (b : Bool) → T (not (is_nan (cond b k0 (product_of p))))
       by true = tt
       by false = over_number binary32 (p.filtered ⊗ gain_of p.level ⊗ of_int binary32 (pos p.vca)) false 32766 (pos 0) (mul_number binary32 (p.filtered ⊗ gain_of p.level) (of_int binary32 (pos p.vca)) sample.ok.1 word.ok.1)
 
-  zero_where : In binary32 k0 k0 (p.filtered ⊗ gain_of p.level ⊗ of_int binary32 (pos p.vca) ⊘ k32767) → T (eq p.adds k0)
+  zero_where : In binary32 k0 k0 (product_of p) → T (eq p.adds k0)
   unfolding eq of_bits
   zero_where i = rw g.product (by p.off)
     where
-      by : (b : Bool) → T (eq (cond b k0 (p.filtered ⊗ gain_of p.level ⊗ of_int binary32 (pos p.vca) ⊘ k32767)) k0)
+      by : (b : Bool) → T (eq (cond b k0 (product_of p)) k0)
       by true = tt
       by false = zero_is _ i.from i.upto
 
@@ -69,21 +70,21 @@ module _ (p : Share) (g : Figures p) where
   unfolding eq of_bits
   zero_off t = rw g.product (by p.off t)
     where
-      by : (b : Bool) → T b → T (eq (cond b k0 (p.filtered ⊗ gain_of p.level ⊗ of_int binary32 (pos p.vca) ⊘ k32767)) k0)
+      by : (b : Bool) → T b → T (eq (cond b k0 (product_of p)) k0)
       by true t = tt
       by false t = absurd t
 
   pub zero_amp : T (le p.level k0) → T (eq p.adds k0)
-  unfolding of_bits proves
+  unfolding product_of of_bits proves
   zero_amp h = zero_where (range k0 k0 (over (times (times (leaf wide) (leaf (gain_zero p.level h))) (leaf word)) k32767) tt)
 
   pub zero_vca : p.vca ≡ 0 → T (eq p.adds k0)
-  unfolding of_bits proves
+  unfolding product_of of_bits proves
   zero_vca e = zero_where (range k0 k0 (over (times (leaf sample) (leaf none)) k32767) tt)
     where
       none : In binary32 k0 k0 (of_int binary32 (pos p.vca))
       none = rw e (unfold of_int of_bits fits le lt eq in in_self binary32 k0 tt)
 
   pub zero_filtered : T (eq p.filtered k0) → T (eq p.adds k0)
-  unfolding of_bits proves
+  unfolding product_of of_bits proves
   zero_filtered h = zero_where (range k0 k0 (over (times (times (leaf (zero_in p.filtered g.filtered.0 h)) (leaf (gain_in p.level g.level))) (leaf word)) k32767) tt)

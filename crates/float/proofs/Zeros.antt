@@ -1,0 +1,135 @@
+-- A zero that is added changes nothing but -0, and a sum is -0 only where both its terms are. Assumes nothing.
+use Prim.Native.Nat.{ℕ, zero, suc, ◌+◌, ◌-◌, ◌*◌, ◌^◌, ◌≤◌, ◌<◌}
+use native.Mathlib.Nat.{add-zero, sub-zero, zero-lt-suc, zero-mul, mul-pos}
+use Rattle.std.proofs.Common.{le-ltb, lt-ltb}
+use native.Mathlib.Omega.{arith}
+use mathlib.Core.Path.{◌≡◌, refl, sym, ap, ◌∙◌, subst}
+use mathlib.Core.Bool.{Bool, true, false, true≢false, not, ◌&&◌, ◌||◌, cond, beq}
+use lib.Dec.{T, ltb, eqb, ltb→lt, eqb→eq}
+use lib.IntN.{ℤ}
+use lib.Pow.{pow_pos}
+use lib.Ieee.{Float, nan, inf, fin, Format, binary32, prec, emax, low, up, down, round, units, odd, sum, add, lt, le, eq, fits, of_bits}
+use lib.Ieee.Fits.{and_l, add-fits, up_pos, down_pos}
+use Rattle.line.proofs.Bools.{or_e}
+use Rattle.line.proofs.Units.{Is, add_is}
+use Rattle.line.proofs.Rounds.{rep_same, exact_at}
+use Rattle.line.proofs.Exact.{value_unique}
+use Rattle.line.proofs.Mono.{good_is, units_of, round_le}
+use Rattle.float.specs.Consts.{k0}
+use Rattle.float.proofs.Laws.{minus_zero}
+
+-- ---- what is rounded
+pub plus_whole : (m : ℕ) (e : ℤ) → T (not (minus_zero (fin false m e)))
+plus_whole zero e = tt
+plus_whole (suc m) e = tt
+
+plus_odd : (d q k l : ℕ) → T (not (minus_zero (odd d false q k l)))
+unfolding odd
+plus_odd d zero k l = tt
+plus_odd d (suc q) k l = plus_whole _ _
+
+-- without a minus
+plus_units : (f : Format) (q k : ℕ) → T (not (minus_zero (units f false q k)))
+unfolding units
+plus_units f q k = by (ltb (q * 2 ^ k) (2 ^ (low f + suc (emax f))))
+  where
+    by : (b : Bool) → T (not (minus_zero (cond b (odd (suc (prec f)) false q k (low f)) (inf false))))
+    by true = plus_odd (suc (prec f)) q k (low f)
+    by false = tt
+
+plus_round : (f : Format) (a c : ℕ) → T (not (minus_zero (round f false a c)))
+unfolding round
+plus_round f a c = plus_units f _ _
+
+-- with one, of what is not zero: -0 is not at or below the smallest of such
+none_below : (e : ℤ) → T (le (fin true 0 e) (round binary32 true 1 (2 ^ 149))) → ⊥
+unfolding round le lt eq
+none_below e t =
+    let a = 0 * up e * 2 ^ 149 in
+    let b = 1 * 1 * down e in
+    or_e (ltb b a) (eqb a b && (true || eqb a 0)) (λ l. omega (arith, ltb→lt b a l, zero-mul (up e))) (λ q. omega (arith, down_pos e, eqb→eq a b (and_l (eqb a b) (true || eqb a 0) q), zero-mul (up e))) t
+
+minus_round : (n : ℕ) → 0 < n → T (not (minus_zero (round binary32 true n (2 ^ 149))))
+minus_round n h = by (round binary32 true n (2 ^ 149)) (round_le binary32 true n true 1 (2 ^ 149) (pow_pos 149) h)
+  where
+    by : (z : Float) → T (le z (round binary32 true 1 (2 ^ 149))) → T (not (minus_zero z))
+    by nan t = tt
+    by (inf s) t = tt
+    by (fin s (suc m) e) t = tt
+    by (fin false zero e) t = tt
+    by (fin true zero e) t = absurd (none_below e t)
+
+-- ---- a sum
+sum_stays : (s : Bool) (q : ℕ) (t : Bool) (r : ℕ) → (s ≡ true → 0 < q) → T (not (minus_zero (sum binary32 s q t r (2 ^ 149))))
+unfolding sum
+sum_stays false q false r h = plus_round binary32 (q + r) (2 ^ 149)
+sum_stays true q true r h = minus_round (q + r) (omega (arith, h refl))
+sum_stays false q true r h = by (ltb q r) (ltb→lt q r)
+  where
+    by : (b : Bool) → (T b → q < r) → T (not (minus_zero (cond b (round binary32 true (r - q) (2 ^ 149)) (round binary32 false (q - r) (2 ^ 149)))))
+    by true l = minus_round (r - q) (omega (arith, l tt))
+    by false l = plus_round binary32 (q - r) (2 ^ 149)
+sum_stays true q false r h = by (ltb q r) (ltb r q) (ltb→lt r q)
+  where
+    by : (b c : Bool) → (T c → r < q) → T (not (minus_zero (cond b (round binary32 false (r - q) (2 ^ 149)) (round binary32 c (q - r) (2 ^ 149)))))
+    by true c l = plus_round binary32 (r - q) (2 ^ 149)
+    by false true l = minus_round (q - r) (omega (arith, l tt))
+    by false false l = plus_round binary32 (q - r) (2 ^ 149)
+
+-- a value that is neither zero nor without a minus has a size
+some : (s : Bool) (m : ℕ) (e : ℤ) (q : ℕ) → T (not (minus_zero (fin s m e))) → m * up e * 2 ^ 149 ≡ q * down e → s ≡ true → 0 < q
+some false m e q h i d = absurd (true≢false (sym d))
+some true zero e q h i d = absurd h
+some true (suc m) e zero h i d = absurd (omega (arith, i, mul-pos (mul-pos (zero-lt-suc m) (up_pos e)) (pow_pos 149)))
+some true (suc m) e (suc q) h i d = zero-lt-suc q
+
+pub sum_not_minus : (x y : Float) → T (fits binary32 x) → T (fits binary32 y) → T (not (minus_zero x)) → T (not (minus_zero (add binary32 x y)))
+unfolding add
+sum_not_minus nan y fx fy h = tt
+sum_not_minus (inf s) nan fx fy h = tt
+sum_not_minus (inf s) (inf t) fx fy h = by (beq s t)
+  where
+    by : (b : Bool) → T (not (minus_zero (cond b (inf s) nan)))
+    by true = tt
+    by false = tt
+sum_not_minus (inf s) (fin t n d) fx fy h = tt
+sum_not_minus (fin s m e) nan fx fy h = tt
+sum_not_minus (fin s m e) (inf t) fx fy h = tt
+sum_not_minus (fin s m e) (fin t n d) fx fy h =
+    let x = fin s m e in
+    let y = fin t n d in
+    let q = units_of binary32 x (fx, tt) in
+    let r = units_of binary32 y (fy, tt) in
+    let i : Is binary32 x s q = good_is binary32 x (fx, tt) in
+    subst (λ (z : Float). T (not (minus_zero z))) (sym (add_is binary32 x y s q t r i (good_is binary32 y (fy, tt)))) (sum_stays s q t r (some s m e q h i.1))
+
+-- ---- a zero that is added
+above : (q : ℕ) → 0 ≤ q
+above q = omega arith
+
+sum_zero : (s : Bool) (q : ℕ) (t : Bool) → (s ≡ true → 0 < q) → sum binary32 s q t 0 (2 ^ 149) ≡ round binary32 s q (2 ^ 149)
+unfolding sum
+sum_zero false q false h = rw (add-zero q) refl
+sum_zero true q true h = rw (add-zero q) refl
+sum_zero false q true h = rw (le-ltb q 0 (above q), sub-zero q) refl
+sum_zero true q false h = rw (le-ltb q 0 (above q), lt-ltb 0 q (h refl), sub-zero q) refl
+
+pub plus_zero : (x z : Float) → T (fits binary32 x) → T (not (minus_zero x)) → T (fits binary32 z) → T (eq z k0) → add binary32 x z ≡ x
+unfolding add eq of_bits
+plus_zero x nan fx h fz e = absurd e
+plus_zero x (inf t) fx h fz e = absurd e
+plus_zero nan (fin t n d) fx h fz e = refl
+plus_zero (inf s) (fin t n d) fx h fz e = refl
+plus_zero (fin s m a) (fin t n d) fx h fz e =
+    let x = fin s m a in
+    let z = fin t n d in
+    let q = units_of binary32 x (fx, tt) in
+    let r = units_of binary32 z (fz, tt) in
+    let i : Is binary32 x s q = good_is binary32 x (fx, tt) in
+    let k : Is binary32 z t r = good_is binary32 z (fz, tt) in
+    let rounded : add binary32 x z ≡ round binary32 s q (2 ^ 149) = add_is binary32 x z s q t r i k ∙ ap (λ (y : ℕ). sum binary32 s q t y (2 ^ 149)) (none r k.1) ∙ sum_zero s q t (some s m a q h i.1) in
+    value_unique binary32 (add binary32 x z) x s q (add-fits binary32 x z) fx (subst (λ (y : Float). Is binary32 y s q) (sym rounded) (exact_at binary32 s q (rep_same binary32 x s q fx i))) i
+  where
+    none : (r : ℕ) → n * up d * 2 ^ 149 ≡ r * down d → r ≡ 0
+    none zero i = refl
+    none (suc r) i = absurd (omega (arith, i, mul-pos (zero-lt-suc r) (down_pos d), eqb→eq (n * up d * 1) (0 * 1 * down d) (and_l (eqb (n * up d * 1) (0 * 1 * down d)) _ e)))

@@ -201,7 +201,8 @@ extern "C" {
         dest: *mut i32,
         dest_len: usize,
     ) -> Received;
-    fn rytm_why(
+    /// The call itself: right true, or left.
+    pub fn rytm_why(
         board: Analog,
         frame: *const u8,
         frame_len: usize,

@@ -5,25 +5,7 @@ use crate::case::Case;
 use crate::fields::bits;
 use crate::oracle::Told;
 use crate::rng::Rng;
-use crate::rytm::{Analog, Board, Reason, Side, Why};
-
-extern "C" {
-    fn rytm_why(
-        board: Analog,
-        frame: *const u8,
-        frame_len: usize,
-        dac: *const i32,
-        dac_len: usize,
-        fx: *const u8,
-        fx_len: usize,
-        audio_l: f32,
-        audio_r: f32,
-        ext_l: f32,
-        ext_r: f32,
-        voice: u32,
-        right: bool,
-    ) -> Why;
-}
+use crate::rytm::{rytm_why, Board, Reason, Side, Why};
 
 const SIDES: [(Side, &str); 2] = [(Side::Left, "left"), (Side::Right, "right")];
 const REASONS: [&str; 6] = ["routed off", "amp level at or below 0", "VCA word 0", "filtered sample zero", "lost to rounding", "heard"];

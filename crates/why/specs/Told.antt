@@ -24,20 +24,20 @@ use Rattle.promise.specs.Levels.{Which, chain_amp, chain_amp_r, chain_filter, le
 use Rattle.why.specs.declared.Reason.{Reason}
 use Rattle.why.specs.declared.Reason.TheVariants.{RoutedOff, AmpDown, VcaZero, FilteredZero, LostToRounding, Heard}
 use Rattle.why.specs.declared.Share.{Share}
-use Rattle.why.specs.Why.{number_of, vca_of, share_of}
+use Rattle.why.specs.Why.{number_of, value_of, vca_of, share_of}
 
--- ---- what each reason says of a voice's share of a side
+-- ---- what each reason says of a voice's share of a side, with the value that it carries
 -- "a number other than zero"; an infinite one is a number
 abbrev pub OtherThanZero : Float → Type 0
 OtherThanZero x = T (not (is_nan x)) × T (not (eq x k0))
 
 abbrev pub Says : Share → Reason → Type 0
 Says p RoutedOff = T p.off
-Says p (AmpDown level) = (level ≡ p.level) × T (le p.level k0)
+Says p (AmpDown level) = (value_of (AmpDown level) ≡ p.level) × T (le p.level k0)
 Says p VcaZero = p.vca ≡ 0
-Says p (FilteredZero cutoff) = (cutoff ≡ p.cutoff) × T (eq p.filtered k0)
+Says p (FilteredZero cutoff) = (value_of (FilteredZero cutoff) ≡ p.cutoff) × T (eq p.filtered k0)
 Says p LostToRounding = T (eq p.adds k0)
-Says p (Heard adds) = (adds ≡ p.adds) × OtherThanZero p.adds
+Says p (Heard adds) = (value_of (Heard adds) ≡ p.adds) × OtherThanZero p.adds
 
 -- any reason but heard
 abbrev pub Unheard : Reason → Type 0

@@ -117,7 +117,7 @@ unfoldable pub gain_of : Float → Float
 gain_of level = cond (le level k0) k0 (exp2_of ((level ⊖ k127) ⊘ LEVELS_PER_6DB))
 
 -- `Chain::process`, and the right side: "the left mix and the receive word use the left level, the right mix the right one". The right amp ticks after the left
--- one, last in the chain
+-- one, last in the chain. `filtered` and `cutoff` tell of the filter what R-6 asks: its sample, before the amps, and the cutoff in Hz that its tangent takes
 unfoldable pub process_of : List ℕ → ℕ → Float → Chain → ChainOut
 process_of f v x c =
     let i = settings_of f v in

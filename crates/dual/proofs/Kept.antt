@@ -30,7 +30,7 @@ use Rattle.dual.specs.Consts.{HZ_PER_TUNE, TUNE_PER_PITCH_LEVEL}
 use Rattle.dual.specs.declared.DualOsc.{DualOsc}
 use Rattle.dual.specs.declared.Settings.{Settings}
 use Rattle.dual.specs.declared.Trigged.{Trigged}
-use Rattle.dual.specs.Dual.{cv_at, record_at, settings_of, trig_of, hz_of, paired_of, plain_of, sound_of, sample_of}
+use Rattle.dual.specs.Dual.{cv_at, record_at, settings_of, trig_of, hz_of, paired_of, plain_of, sound_of, sample_by, sample_of}
 
 abbrev none : Drift
 none = record { cents = nan; ratio = nan; n = 0 }
@@ -106,7 +106,7 @@ trig_in true d w h k =
 trig_in false d w h k = record { phases = record { ph1 = h.ph1; ph2 = h.ph2 }; det1 = h.det1; det2 = h.det2; w = k }
 
 pub dual_in : (f : List ℕ) → Bytes f → (n : ℕ) (d : DualOsc) (w : Wobble) → DualIn d → WobbleIn w → DualIn (sample_of f n d w).dual × WobbleIn (sample_of f n d w).w
-unfolding sample_of settings_of
+unfolding sample_of sample_by settings_of
 dual_in f B n d w h k =
     let i = settings_of f n in
     let t = trig_of (i.trig && not d.trig) (record { ph1 = d.ph1; ph2 = d.ph2 }) d.det w in

@@ -102,12 +102,12 @@ paired_of i phases hz1 hz2 amp2 = pair_of phases (record {
   ring = i.ring;
 }) FS
 
--- "without them oscillator 1 is a sine, with saw added where its wave switch is set"
+-- without them oscillator 1 is a sine, with saw added where its wave switch is clear (R-7): in the makers' code list a set switch is code 101, the sine, and a clear one 100, the sinesaw
 unfoldable pub plain_of : Settings → Pair → Float → Float → PairOut
 plain_of i phases hz1 hz2 =
     let o2 = sin_of (TAU ⊗ phases.ph2) in
     let o = sin_of (TAU ⊗ phases.ph1) in
-    let o1 = cond i.wave1 (k0p7 ⊗ o ⊕ k0p3 ⊗ (k2 ⊗ phases.ph1 ⊖ k1)) o in
+    let o1 = cond i.wave1 o (k0p7 ⊗ o ⊕ k0p3 ⊗ (k2 ⊗ phases.ph1 ⊖ k1)) in
     record {
       pair = record { ph1 = advanced phases.ph1 hz1 FS; ph2 = advanced phases.ph2 hz2 FS };
       y = o1 ⊗ word_level i.level1 ⊕ o2 ⊗ word_level i.level2;
@@ -117,9 +117,9 @@ plain_of i phases hz1 hz2 =
 unfoldable pub sound_of : Settings → Pair → Float → Float → Float → PairOut
 sound_of i phases hz1 hz2 amp2 = cond (i.fm || i.ring) (paired_of i phases hz1 hz2 amp2) (plain_of i phases hz1 hz2)
 
--- `DualOsc::sample`
-unfoldable pub sample_of : List ℕ → ℕ → DualOsc → Wobble → DualOut
-sample_of f d e w =
+-- `DualOsc::sample` of a voice whose oscillators sound by `sound`
+unfoldable pub sample_by : (Settings → Pair → Float → Float → Float → PairOut) → List ℕ → ℕ → DualOsc → Wobble → DualOut
+sample_by sound f d e w =
     let i = settings_of f d in
     let t = trig_of (i.trig && not e.trig) (record { ph1 = e.ph1; ph2 = e.ph2 }) e.det w in
     let none : Drift = record { cents = nan; ratio = nan; n = 0 } in
@@ -130,7 +130,7 @@ sample_of f d e w =
     let amp2 = dual_of e.last_m i.rm e.amp2 in
     let hz1 = hz_of i.tune1 pitch.level (get_or t.det 0 nan) d1.x.ratio in
     let hz2 = hz_of i.tune2 pitch.level (get_or t.det 1 nan) d2.x.ratio in
-    let s = sound_of i t.phases hz1 hz2 amp2.level in
+    let s = sound i t.phases hz1 hz2 amp2.level in
     record {
       dual = record {
         last_p = i.rp;
@@ -148,3 +148,6 @@ sample_of f d e w =
       w = d2.w;
       y = s.y ⊗ gain_of amp.level;
     }
+
+unfoldable pub sample_of : List ℕ → ℕ → DualOsc → Wobble → DualOut
+sample_of f d e w = sample_by sound_of f d e w

@@ -3,6 +3,8 @@
 
 ghost use Rattle.std.specs.Prelude.{◌≡◌, Bool};
 ghost use Rattle.dual.specs.Dual.{dual_new, settings_of, trig_of, hz_of, word_level, paired_of, plain_of, sound_of, sample_of};
+ghost use Rattle.dual.specs.Codes.{FollowsItsCode};
+ghost use Rattle.dual.specs.BeforeR7.{OnlyPlainChanged};
 
 use envelope::Env;
 use frame::Frame;
@@ -154,14 +156,14 @@ fn paired(settings: Settings, phases: Pair, hz1: f32, hz2: f32, amp2: f32) -> Pa
     phases.sample(set, float::FS)
 }
 
-// Without: oscillator 1 is a sine, with saw added where its wave switch is set.
+// Without: oscillator 1 is a sine, with saw added where its wave switch is clear. In the makers' code list a set switch is the sine, 101, and a clear one the sinesaw, 100.
 #[tactic(auto, unfolding(crate::specs::Dual::plain_of))]
 fn plain(settings: Settings, phases: Pair, hz1: f32, hz2: f32) -> PairOut
     ensures { result ≡ plain_of settings phases hz1 hz2 }
 {
     let o2 = sine::sin(float::TAU * phases.ph2);
     let o = sine::sin(float::TAU * phases.ph1);
-    let o1 = float::choose(settings.wave1, 0.7 * o + 0.3 * (2.0 * phases.ph1 - 1.0), o);
+    let o1 = float::choose(settings.wave1, o, 0.7 * o + 0.3 * (2.0 * phases.ph1 - 1.0));
     PairOut {
         pair: Pair {
             ph1: vco::advance(phases.ph1, hz1, float::FS),
@@ -204,9 +206,10 @@ impl DualOsc {
 
     // One sample of voice d: 0 BD, 1 SD, 2 RS. An enum is no plainer: d is a place in two arrays, the board's in a `for` over it and the table of
     // specs, and every number is one.
-    #[tactic(auto, unfolding(crate::specs::Dual::sample_of, crate::specs::Dual::gain_of))]
     pub fn sample(self, f: &Frame, d: usize, w: Wobble) -> DualOut
-        ensures { result ≡ sample_of f.now d self w }
+        ensures value { result ≡ sample_of f.now d self w }
+        ensures code { FollowsItsCode f.now d self result }
+        ensures alone { OnlyPlainChanged f.now d self w result }
     {
         let settings = Settings::read(f, d);
         let phases = Pair {

@@ -1,6 +1,6 @@
--- A zero that is added changes nothing but -0, and a sum is -0 only where both its terms are. Assumes nothing.
+-- A zero that is added, on either side, changes nothing but -0, and a sum is -0 only where both its terms are. Assumes nothing.
 use Prim.Native.Nat.{ℕ, zero, suc, ◌+◌, ◌-◌, ◌*◌, ◌^◌, ◌≤◌, ◌<◌}
-use native.Mathlib.Nat.{add-zero, sub-zero, zero-lt-suc, zero-mul, mul-pos}
+use native.Mathlib.Nat.{add-zero, zero-add, sub-zero, zero-lt-suc, zero-mul, mul-pos}
 use Rattle.std.proofs.Common.{le-ltb, lt-ltb}
 use native.Mathlib.Omega.{arith}
 use mathlib.Core.Path.{◌≡◌, refl, sym, ap, ◌∙◌, subst}
@@ -114,6 +114,28 @@ sum_zero true q true h = rw (add-zero q) refl
 sum_zero false q true h = rw (le-ltb q 0 (above q), sub-zero q) refl
 sum_zero true q false h = rw (le-ltb q 0 (above q), lt-ltb 0 q (h refl), sub-zero q) refl
 
+-- and from it
+sum_from : (t s : Bool) (q : ℕ) → (s ≡ true → 0 < q) → sum binary32 t 0 s q (2 ^ 149) ≡ round binary32 s q (2 ^ 149)
+unfolding sum
+sum_from false false q h = rw (zero-add q) refl
+sum_from true true q h = rw (zero-add q) refl
+sum_from false true q h = rw (lt-ltb 0 q (h refl), sub-zero q) refl
+sum_from true false zero h = refl
+sum_from true false (suc q) h = rw (lt-ltb 0 (suc q) (zero-lt-suc q), sub-zero (suc q)) refl
+
+-- a zero has no size
+zero_units : (t : Bool) (n : ℕ) (d : ℤ) (fz : T (fits binary32 (fin t n d))) → T (eq (fin t n d) k0) → units_of binary32 (fin t n d) (fz, tt) ≡ 0
+unfolding eq of_bits
+zero_units t n d fz e = none (units_of binary32 (fin t n d) (fz, tt)) (good_is binary32 (fin t n d) (fz, tt)).1
+  where
+    none : (r : ℕ) → n * up d * 2 ^ 149 ≡ r * down d → r ≡ 0
+    none zero i = refl
+    none (suc r) i = absurd (omega (arith, i, mul-pos (zero-lt-suc r) (down_pos d), eqb→eq (n * up d * 1) (0 * 1 * down d) (and_l (eqb (n * up d * 1) (0 * 1 * down d)) _ e)))
+
+-- what is rounded of a value's own size is the value
+rounded_is : (x y : Float) (s : Bool) (q : ℕ) → T (fits binary32 x) → T (fits binary32 y) → Is binary32 x s q → y ≡ round binary32 s q (2 ^ 149) → y ≡ x
+rounded_is x y s q fx fy i r = value_unique binary32 y x s q fy fx (subst (λ (z : Float). Is binary32 z s q) (sym r) (exact_at binary32 s q (rep_same binary32 x s q fx i))) i
+
 pub plus_zero : (x z : Float) → T (fits binary32 x) → T (not (minus_zero x)) → T (fits binary32 z) → T (eq z k0) → add binary32 x z ≡ x
 unfolding add eq of_bits
 plus_zero x nan fx h fz e = absurd e
@@ -124,12 +146,29 @@ plus_zero (fin s m a) (fin t n d) fx h fz e =
     let x = fin s m a in
     let z = fin t n d in
     let q = units_of binary32 x (fx, tt) in
-    let r = units_of binary32 z (fz, tt) in
     let i : Is binary32 x s q = good_is binary32 x (fx, tt) in
-    let k : Is binary32 z t r = good_is binary32 z (fz, tt) in
-    let rounded : add binary32 x z ≡ round binary32 s q (2 ^ 149) = add_is binary32 x z s q t r i k ∙ ap (λ (y : ℕ). sum binary32 s q t y (2 ^ 149)) (none r k.1) ∙ sum_zero s q t (some s m a q h i.1) in
-    value_unique binary32 (add binary32 x z) x s q (add-fits binary32 x z) fx (subst (λ (y : Float). Is binary32 y s q) (sym rounded) (exact_at binary32 s q (rep_same binary32 x s q fx i))) i
-  where
-    none : (r : ℕ) → n * up d * 2 ^ 149 ≡ r * down d → r ≡ 0
-    none zero i = refl
-    none (suc r) i = absurd (omega (arith, i, mul-pos (zero-lt-suc r) (down_pos d), eqb→eq (n * up d * 1) (0 * 1 * down d) (and_l (eqb (n * up d * 1) (0 * 1 * down d)) _ e)))
+    rounded_is x (add binary32 x z) s q fx (add-fits binary32 x z) i
+    (add_is binary32 x z s q t _ i (good_is binary32 z (fz, tt)) ∙ ap (λ (y : ℕ). sum binary32 s q t y (2 ^ 149)) (zero_units t n d fz e) ∙ sum_zero s q t (some s m a q h i.1))
+
+pub zero_plus : (z x : Float) → T (fits binary32 z) → T (eq z k0) → T (fits binary32 x) → T (not (minus_zero x)) → add binary32 z x ≡ x
+unfolding add eq of_bits
+zero_plus nan x fz e fx h = absurd e
+zero_plus (inf t) x fz e fx h = absurd e
+zero_plus (fin t n d) nan fz e fx h = refl
+zero_plus (fin t n d) (inf s) fz e fx h = refl
+zero_plus (fin t n d) (fin s m a) fz e fx h =
+    let x = fin s m a in
+    let z = fin t n d in
+    let q = units_of binary32 x (fx, tt) in
+    let i : Is binary32 x s q = good_is binary32 x (fx, tt) in
+    rounded_is x (add binary32 z x) s q fx (add-fits binary32 z x) i
+    (add_is binary32 z x t _ s q (good_is binary32 z (fz, tt)) i ∙ ap (λ (y : ℕ). sum binary32 t y s q (2 ^ 149)) (zero_units t n d fz e) ∙ sum_from t s q (some s m a q h i.1))
+
+-- ---- two values that are one, or zeros with any signs: what is added to them decides
+pub data Alike (x y : Float) : Type 0 where
+  same : x ≡ y → Alike x y
+  zeros : T (fits binary32 x) → T (eq x k0) → T (fits binary32 y) → T (eq y k0) → Alike x y
+
+pub alike_plus : (x y w : Float) → Alike x y → T (fits binary32 w) → T (not (minus_zero w)) → add binary32 x w ≡ add binary32 y w
+alike_plus x y w (same e) f h = ap (λ (z : Float). add binary32 z w) e
+alike_plus x y w (zeros fx ex fy ey) f h = zero_plus x w fx ex f h ∙ sym (zero_plus y w fy ey f h)

@@ -43,7 +43,7 @@ pub record Called : Type 0 where
   pub sinesaw : (p : Float) → wave_at SineSaw p ≡ k0p7 ⊗ sin_of (turn p) ⊕ k0p3 ⊗ (k2 ⊗ p ⊖ k1)
   pub asym : (p : Float) → wave_at AsymSine p ≡ sin_of (asym_turn p)
   pub plain : (i : Settings) (p q hz1 hz2 : Float) → (Dual.plain_of i (record { ph1 = p; ph2 = q }) hz1 hz2).y
-      ≡ cond i.wave1 (k0p7 ⊗ sin_of (turn p) ⊕ k0p3 ⊗ (k2 ⊗ p ⊖ k1)) (sin_of (turn p)) ⊗ Dual.word_level i.level1 ⊕ sin_of (turn q) ⊗ Dual.word_level i.level2
+      ≡ cond i.wave1 (sin_of (turn p)) (k0p7 ⊗ sin_of (turn p) ⊕ k0p3 ⊗ (k2 ⊗ p ⊖ k1)) ⊗ Dual.word_level i.level1 ⊕ sin_of (turn q) ⊗ Dual.word_level i.level2
   pub dual_gain : (x : Float) → Dual.gain_of x ≡ cond (le x k_m127p5) k0 (exp2_of (gain x))
   -- hat and cymbal
   pub hat_colour_lem : (f : List ℕ) → Hat.colour_of f ≡ k2 ⊗ sin_of (hat_filter f)

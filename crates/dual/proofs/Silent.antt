@@ -1,0 +1,100 @@
+-- A dual voice whose amp is at or below -127.5 gives a zero, by today's plain path and by that of before R-7: so their samples are the same, or zeros. Assumes nothing.
+use Prim.Native.Nat.{ℕ, ◌≤◌}
+use mathlib.Core.Path.{◌≡◌, refl, sym, ap, subst}
+use mathlib.Core.Bool.{Bool, true, false, true≢false, not, ◌&&◌, ◌||◌, cond}
+use mathlib.Core.List.{List}
+use lib.Dec.{T, eqb}
+use lib.Ieee.{Float, binary32, neg, le, lt, eq, fits, of_bits}
+use lib.Ieee.Fits.{mul-fits}
+use Rattle.line.proofs.Range.{In, in_cond, in_self}
+use Rattle.float.specs.Consts.{k0, k1, k2, k3, k6, k12, k32767, k0p5, k_m127p5}
+use Rattle.float.specs.Ops.{◌⊗◌}
+use Rattle.float.proofs.Eval.{leaf, con, plus, times, over, range, proves}
+use Rattle.float.proofs.Numbers.{word_range, zero_is}
+use Rattle.float.proofs.Zeros.{Alike, same, zeros}
+use Rattle.frame.specs.Frame.{Bytes}
+use Rattle.envelope.specs.Moves.{dual_of}
+use Rattle.vco.specs.declared.Pair.{Pair}
+use Rattle.vco.specs.Vco.{ring_of}
+use Rattle.vco.proofs.Kept.{Wide, osc_in}
+use Rattle.wobble.specs.declared.Wobble.{Wobble}
+use Rattle.wobble.proofs.Kept.{Unit, either}
+use Rattle.dual.specs.declared.DualOsc.{DualOsc}
+use Rattle.dual.specs.declared.DualOut.{DualOut}
+use Rattle.dual.specs.declared.Settings.{Settings}
+use Rattle.dual.specs.Dual.{settings_of, gain_of, word_level, sample_by, sample_of}
+use Rattle.dual.specs.Codes.{phases_of, heard_of}
+use Rattle.dual.specs.BeforeR7.{sound_before, sample_before, plain_sounds, turned}
+use Rattle.dual.proofs.Kept.{DualIn, cv_in}
+use Rattle.dual.proofs.Codes.{sample_heard, follows_its_code}
+use Rattle.dual.proofs.BeforeR7.{only_plain_changed, before_heard}
+
+-- ---- what is heard is finite
+level_in : (w : ℕ) → w ≤ 65535 → In binary32 k0 k3 (word_level w)
+unfolding word_level of_bits proves
+level_in w h = range k0 k3 (over (leaf (word_range w h)) k32767) tt
+
+ringed_in : (on : Bool) (o : Float) (stopped : Bool) (ph : Float) → Wide o → Wide (ring_of on o stopped ph)
+unfolding ring_of of_bits proves
+ringed_in true o stopped ph h =
+    range (neg k2) k2 (times (leaf h) (leaf (in_cond binary32 (neg k1) k1 (stopped || lt ph k0p5) (λ t. range (neg k1) k1 (con k1) tt) (λ t. range (neg k1) k1 (con (neg k1)) tt)))) tt
+ringed_in false o stopped ph h = h
+
+heard_in : (i : Settings) (p : Pair) → Unit p.ph1 → Unit p.ph2 → i.level1 ≤ 65535 → i.level2 ≤ 65535 → In binary32 (neg k12) k12 (heard_of i p)
+unfolding heard_of of_bits proves
+heard_in i p h1 h2 l1 l2 =
+    let core = i.fm || i.ring in
+    let o1 = ringed_in i.ring _ (eqb i.tune2 0) p.ph2 (osc_in (core && eqb i.tune1 0) _ p.ph1 h1) in
+    let o2 = osc_in (core && eqb i.tune2 0) _ p.ph2 h2 in
+    range (neg k12) k12
+    (plus (times (leaf o1) (leaf (level_in i.level1 l1))) (leaf (in_cond binary32 (neg k6) k6 i.fm (λ t. range (neg k6) k6 (con k0) tt) (λ t. range (neg k6) k6 (times (leaf o2) (leaf (level_in i.level2 l2))) tt)))) tt
+
+-- and so a zero, where the amp is at its floor
+gain_zero : (l : Float) → T (le l k_m127p5) → In binary32 k0 k0 (gain_of l)
+unfolding gain_of of_bits fits le lt eq
+gain_zero l t = by (le l k_m127p5) _ t
+  where
+    by : (b : Bool) (x : Float) → T b → In binary32 k0 k0 (cond b k0 x)
+    by true x t = in_self binary32 k0 tt
+    by false x t = absurd t
+
+floored : (y l : Float) → In binary32 (neg k12) k12 y → T (le l k_m127p5) → T (eq (y ⊗ gain_of l) k0)
+unfolding of_bits proves
+floored y l h t = let z = range k0 k0 (times (leaf h) (leaf (gain_zero l t))) tt in zero_is (y ⊗ gain_of l) z.from z.upto
+
+phases_in : (i : Settings) (e : DualOsc) → DualIn e → Unit (phases_of i e).ph1 × Unit (phases_of i e).ph2
+unfolding of_bits proves
+phases_in i e h =
+    either (λ (p : Pair). Unit p.ph1 × Unit p.ph2) (i.trig && not e.trig) (record { ph1 = k0; ph2 = k0 }) (record { ph1 = e.ph1; ph2 = e.ph2 })
+    (range k0 k1 (con k0) tt, range k0 k1 (con k0) tt) (h.ph1.unit, h.ph2.unit)
+
+-- ---- a sample beside the one before R-7
+module _ (f : List ℕ) (B : Bytes f) (d : ℕ) (e : DualOsc) (w : Wobble) (h : DualIn e) where
+  abbrev i : Settings
+  i = settings_of f d
+
+  abbrev level : Float
+  level = (dual_of e.last_a i.ra e.amp).level
+
+  heard_zero : (j : Settings) → j.level1 ≡ i.level1 → j.level2 ≡ i.level2 → T (le level k_m127p5) → let y = heard_of j (phases_of i e) ⊗ gain_of level in T (fits binary32 y) × T (eq y k0)
+  unfolding settings_of
+  heard_zero j a b t =
+      let p = phases_in i e h in (
+        mul-fits binary32 (heard_of j (phases_of i e)) (gain_of level),
+        floored _ level (heard_in j (phases_of i e) p.0 p.1 (rw a (cv_in f B d 2)) (rw b (cv_in f B d 3))) t,
+      )
+
+  pub sample_alike : plain_sounds f d (sample_of f d e w).dual.amp.level ≡ false → Alike (sample_of f d e w).y (sample_before f d e w).y
+  unfolding plain_sounds sample_of sample_before sample_by
+  sample_alike q = by (i.fm || i.ring) (le level k_m127p5) refl refl q
+    where
+      by : (core low : Bool) → (i.fm || i.ring) ≡ core → le level k_m127p5 ≡ low → (not core && not low) ≡ false → Alike (sample_of f d e w).y (sample_before f d e w).y
+      by true low c l q = same (ap (λ (o : DualOut). o.y) ((only_plain_changed f d e w).modulated (subst T (sym c) tt)))
+      by false true c l q =
+          let t : T (le level k_m127p5) = subst T (sym l) tt in
+          let now : (sample_of f d e w).y ≡ heard_of i (phases_of i e) ⊗ gain_of level = follows_its_code f d e w in
+          let then : (sample_before f d e w).y ≡ heard_of (turned i) (phases_of i e) ⊗ gain_of level = sample_heard sound_before (heard_of (turned i)) f d e w (before_heard i) in
+          let y = heard_zero i refl refl t in
+          let z = heard_zero (turned i) refl refl t in
+          zeros (rw now y.0) (rw now y.1) (rw then z.0) (rw then z.1)
+      by false false c l q = absurd (true≢false q)

@@ -7,7 +7,8 @@ use lib.ListN.{get_or, length, length-set}
 use lib.IntN.{ℤ, pos}
 use Rattle.frame.specs.Offsets.{tom_spec}
 use Rattle.frame.specs.Frame.{Bytes}
-use Rattle.lists.proofs.Sweep.{turns_keep, set_keeps, Turn, turns_at}
+use Rattle.lists.specs.Turns.{turns_of}
+use Rattle.lists.proofs.Sweep.{turns_keep, set_keeps, Turn, turns_later, turns_at}
 use Rattle.wobble.specs.declared.Wobble.{Wobble}
 use Rattle.wobble.proofs.Kept.{WobbleIn}
 use Rattle.dual.specs.declared.DualOsc.{DualOsc}
@@ -40,6 +41,10 @@ module _ (f : List ℕ) (dac : List ℤ) (s : Sources) where
   turn : (d : ℕ) (x : Sources) → Turn (λ (y : Sources). y.duals) no_dual (DualBy f) d x (dual_turn f d x)
   unfolding dual_turn
   turn d x = record { put = (Dual.sample_of f d (get_or x.duals d no_dual) x.w).dual; sets = refl; rule = record { w = x.w; is = refl } }
+
+  -- voice n as it stands before its turn is as it stood at first
+  pub dual_later : (n : ℕ) → get_or (turns_of n (dual_turn f) s).duals n no_dual ≡ get_or s.duals n no_dual
+  dual_later n = turns_later (λ (y : Sources). y.duals) no_dual (DualBy f) (dual_turn f) turn s n n (omega arith)
 
   -- the toms leave the dual voices, and both leave hat and cymbal
   toms_leave : (toms_of f dac (duals_of f s)).duals ≡ (duals_of f s).duals

@@ -1,2 +1,3 @@
 -- Laws of `sources`.
 pub mod Kept
+pub mod BeforeR7

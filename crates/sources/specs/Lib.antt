@@ -1,2 +1,3 @@
--- The definitions that the contracts of `sources` cite.
+-- The definitions that the contracts of `sources` cite, and those of before R-7.
 pub mod Sources
+pub mod BeforeR7

@@ -2,3 +2,4 @@
 pub mod Kept
 pub mod Alone
 pub mod BeforeR5
+pub mod Fed

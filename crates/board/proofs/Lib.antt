@@ -2,3 +2,4 @@
 pub mod Range
 pub mod Numbers
 pub mod BeforeR5
+pub mod BeforeR7

@@ -5,6 +5,7 @@ ghost use Rattle.std.specs.Prelude.{◌≡◌};
 ghost use Rattle.board.specs.Board.{fresh_of, inputs_of};
 ghost use Rattle.promise.specs.Promise.{Promised};
 ghost use Rattle.promise.specs.BeforeR5.{SameRecordsSameAnswers};
+ghost use Rattle.promise.specs.BeforeR7.{NonePlainSameAnswers};
 ghost use Rattle.board_c.specs.Calls.{Step, ReceiveStep};
 
 use board::{Analog, Inputs};
@@ -32,7 +33,7 @@ pub struct Received {
 // A fresh board.
 #[unsafe(no_mangle)]
 pub extern "C" fn rytm_fresh(seed: u32, ideal: bool) -> Analog
-    ensures { (result ≡ fresh_of seed ideal) × Promised result × SameRecordsSameAnswers seed ideal }
+    ensures { (result ≡ fresh_of seed ideal) × Promised result × SameRecordsSameAnswers seed ideal × NonePlainSameAnswers seed ideal }
 {
     promise::fresh(seed, ideal)
 }

@@ -84,7 +84,7 @@ module _ (b : Analog) (f : List ℕ) (dac : List ℤ) (fx : List ℕ) (x : Input
 
 -- so each envelope sees its record: the one lemma that ties the levels to the step
 state_after : (b : Analog) (f : List ℕ) (n : Analog) → Good b → Stepped b f n → (w : Which) → state_at n w ≡ after_in (state_at b w) (record_at f w)
-unfolding Dual.sample_of Dual.settings_of Dual.record_at Chain.process_of Chain.settings_of Cym.record_at dual_of hit_of taken_of
+unfolding Dual.sample_of Dual.sample_by Dual.settings_of Dual.record_at Chain.process_of Chain.settings_of Cym.record_at dual_of hit_of taken_of
 state_after b f n g s (pitch d h) = ap (λ (e : DualOsc). State.dual e.last_p e.pitch.level) (s.duals d h).is
 state_after b f n g s (amp d h) = ap (λ (e : DualOsc). State.dual e.last_a e.amp.level) (s.duals d h).is
 state_after b f n g s (amp2 d h) = ap (λ (e : DualOsc). State.dual e.last_m e.amp2.level) (s.duals d h).is

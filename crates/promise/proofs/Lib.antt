@@ -9,3 +9,4 @@ pub mod Counts
 pub mod Whole
 pub mod Corollaries
 pub mod BeforeR5
+pub mod BeforeR7

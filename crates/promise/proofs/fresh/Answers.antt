@@ -4,10 +4,12 @@ use Rattle.board.specs.declared.Analog.{Analog}
 use Rattle.promise.specs.Promise.{Promised}
 use Rattle.promise.proofs.Whole.{fresh_promised}
 use Rattle.promise.proofs.BeforeR5.{same_records_same_answers}
+use Rattle.promise.proofs.BeforeR7.{none_plain_same_answers}
 use Rattle.promise.proofs.fresh.Goals as goal
 
 pub returns : goal.returns
 returns c =
     let a = c.args in
     let is = c.fresh.ensures in
-    (is, subst (λ (b : Analog). Promised b) (sym is) (fresh_promised a.seed a.ideal c.ranges.seed.fits), same_records_same_answers a.seed a.ideal)
+    let fits = c.ranges.seed.fits in
+    (is, subst (λ (b : Analog). Promised b) (sym is) (fresh_promised a.seed a.ideal fits), same_records_same_answers a.seed a.ideal, none_plain_same_answers a.seed a.ideal fits)

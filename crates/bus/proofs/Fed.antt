@@ -1,16 +1,15 @@
 -- What a chain is fed decides what it does: sources that are the same, or zeros of two signs, feed the chains alike, since a DAC word's part is never -0. Assumes nothing.
-use Prim.Native.Nat.{ℕ, zero, suc, ◌+◌, ◌*◌}
-use native.Mathlib.Nat.{zero-mul}
+use Prim.Native.Nat.{ℕ, zero, suc}
 use native.Mathlib.Omega.{arith}
 use Rattle.std.proofs.Common.{le→leb}
 use mathlib.Core.Path.{◌≡◌, refl}
-use mathlib.Core.Bool.{not, true, false}
+use mathlib.Core.Bool.{not, false}
 use mathlib.Core.List.{List}
 use lib.ListN.{get_or}
-use lib.Dec.{T, ltb→lt}
+use lib.Dec.{T}
 use lib.IntN.{ℤ, pos, negsuc}
 use Rattle.std.specs.Int.Signed.{le_z}
-use lib.Ieee.{Float, nan, inf, fin, binary32, neg, lt, le, eq, fits, of_bits, of_int, up, down, round, mul, div}
+use lib.Ieee.{Float, fin, binary32, neg, lt, le, eq, fits, of_bits, of_int, round, mul, div}
 use lib.Ieee.Fits.{mul-fits}
 use Rattle.std.proofs.lemmas.Float.{lt_of_lt_of_le, lt_of_le_of_lt}
 use Rattle.line.proofs.Range.{In}
@@ -19,28 +18,11 @@ use Rattle.float.specs.Consts.{k0, k1, k0p5, k8388608}
 use Rattle.float.specs.Ops.{◌⊗◌, ◌⊘◌}
 use Rattle.float.proofs.Laws.{minus_zero}
 use Rattle.float.proofs.Eval.{leaf, con, times, over, range, proves}
-use Rattle.float.proofs.Zeros.{Alike, alike_plus}
+use Rattle.float.proofs.Zeros.{Alike, alike_plus, positive, negative}
 use Rattle.lists.proofs.Sweep.{turns_match}
 use Rattle.chain.specs.declared.Chain.{Chain}
 use Rattle.bus.specs.declared.Bus.{Bus}
 use Rattle.bus.specs.Bus.{dac_f, fed_of, input_of, turn_of, voices_of}
-
--- a number other than zero is not -0
-positive : (x : Float) → T (lt k0 x) → T (not (minus_zero x))
-unfolding lt of_bits
-positive nan t = tt
-positive (inf s) t = tt
-positive (fin s (suc m) e) t = tt
-positive (fin false zero e) t = tt
-positive (fin true zero e) t = absurd t
-
-negative : (x : Float) → T (lt x k0) → T (not (minus_zero x))
-unfolding lt of_bits
-negative nan t = tt
-negative (inf s) t = tt
-negative (fin s (suc m) e) t = tt
-negative (fin false zero e) t = tt
-negative (fin true zero e) t = absurd (omega (arith, ltb→lt 0 (0 * up e * 1 + 0 * down e) t, zero-mul (up e), zero-mul (down e)))
 
 -- a DAC word of the step's range, as its chain takes it: 0, from 2 ^ -24 on, or up to -2 ^ -24
 abbrev least : Float

@@ -3,14 +3,18 @@ use Prim.Native.Nat.{ℕ}
 use mathlib.Core.Path.{◌≡◌, refl, ap, ◌∙◌}
 use mathlib.Core.Bool.{Bool, true, false, not, ◌&&◌, cond}
 use mathlib.Core.List.{List}
-use lib.Ieee.{Float}
-use Rattle.float.specs.Consts.{k0}
+use lib.Dec.{eqb}
+use lib.Ieee.{Float, binary32, fits, le, lt, eq, mul, round, of_bits}
+use Rattle.line.proofs.Range.{In, in_wide}
+use Rattle.float.specs.Consts.{k0, k65535, FS, k0p001, k0p45}
 use Rattle.float.specs.Ops.{◌⊗◌}
 use Rattle.envelope.specs.Moves.{dual_of}
 use Rattle.vco.specs.declared.Pair.{Pair}
 use Rattle.vco.specs.declared.PairOut.{PairOut}
-use Rattle.vco.specs.Vco.{wave_from_bits, wave_at, osc_of, ring_of, pair_of}
+use Rattle.vco.specs.Vco.{wave_from_bits, wave_at, osc_of, ring_of, modulated, pair_of}
+use Rattle.vco.proofs.Kept.{uncapped, advanced_alike}
 use Rattle.wobble.specs.declared.Wobble.{Wobble}
+use Rattle.wobble.proofs.Kept.{Unit}
 use Rattle.dual.specs.declared.DualOsc.{DualOsc}
 use Rattle.dual.specs.declared.Settings.{Settings}
 use Rattle.dual.specs.Dual.{settings_of, trig_of, gain_of, paired_of, plain_of, sound_of, sample_by, sample_of}
@@ -48,3 +52,13 @@ sample_heard sound heard f d e w h =
 pub follows_its_code : (f : List ℕ) (d : ℕ) (e : DualOsc) (w : Wobble) → FollowsItsCode f d e (sample_of f d e w)
 unfolding sample_of sample_by
 follows_its_code f d e w = sample_heard sound_of (heard_of (settings_of f d)) f d e w (sound_heard (settings_of f d))
+
+-- ---- and the phases
+-- where neither oscillator is stopped and the frequencies lie as `hz_runs` has them, the core with neither FM nor ring takes the phases where the plain path does
+pub same_phases : (i : Settings) (p : Pair) (hz1 hz2 a : Float) → i.fm ≡ false → eqb i.tune1 0 ≡ false → eqb i.tune2 0 ≡ false → Unit p.ph1 → In binary32 k0p001 (FS ⊗ k0p45) hz1 → In binary32 k0p001 (FS ⊗ k0p45) hz2
+    → (paired_of i p hz1 hz2 a).pair ≡ (plain_of i p hz1 hz2).pair
+unfolding paired_of plain_of pair_of modulated
+same_phases i p hz1 hz2 a e s t h f g = rw (e, s, t, uncapped hz1 f, uncapped hz2 g, advanced_alike p.ph1 hz1 h wide) refl
+  where
+    wide : In binary32 k0p001 k65535 hz1
+    wide = unfold fits le lt eq mul round of_bits in in_wide binary32 k0p001 k65535 f tt

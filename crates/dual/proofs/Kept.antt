@@ -7,10 +7,10 @@ use lib.Dec.{eqb}
 use lib.IntN.{pos}
 use lib.Ieee.{Float, nan, binary32, le, lt, eq, fits, of_bits, of_int}
 use Rattle.line.proofs.Range.{In}
-use Rattle.float.specs.Consts.{k0, k1, k127, FS, k65535, k0p45}
+use Rattle.float.specs.Consts.{k0, k1, k127, FS, k65535, k0p001, k0p45}
 use Rattle.float.specs.Ops.{◌⊗◌, ◌⊘◌}
 use Rattle.float.specs.Floats.{min_of, clamp_of}
-use Rattle.float.proofs.Numbers.{word_range}
+use Rattle.float.proofs.Numbers.{word_range, word_from}
 use Rattle.float.proofs.Eval.{leaf, con, plus, times, over, capped, floored, clamped, range, proves}
 use Rattle.frame.specs.Offsets.{PITCH_REC, AMP_REC, AMP2_REC, dual_spec}
 use Rattle.frame.specs.Frame.{Bytes}
@@ -32,7 +32,7 @@ use Rattle.dual.specs.declared.Settings.{Settings}
 use Rattle.dual.specs.declared.Trigged.{Trigged}
 use Rattle.dual.specs.Dual.{cv_at, record_at, settings_of, trig_of, hz_of, paired_of, plain_of, sound_of, sample_by, sample_of}
 
-abbrev none : Drift
+abbrev pub none : Drift
 none = record { cents = nan; ratio = nan; n = 0 }
 
 pub record DualIn (d : DualOsc) : Type 0 where
@@ -60,6 +60,12 @@ pub hz_in : (w : ℕ) (l t r : Float) → w ≤ 65535 → Level l → Ratio t �
 unfolding hz_of of_bits proves
 hz_in w l t r h a b c =
     range k0 k65535 (times (times (times (plus (leaf (word_range w h)) (times (floored (leaf (level_range l a)) k0) (con TUNE_PER_PITCH_LEVEL))) (con HZ_PER_TUNE)) (leaf b)) (leaf c)) tt
+
+-- with a tune word other than 0: above 0.001 Hz, and so below the shared core's limit of 21,600 Hz that this never takes hold
+pub hz_runs : (w : ℕ) (l t r : Float) → 1 ≤ w → w ≤ 65535 → Level l → Ratio t → Ratio r → In binary32 k0p001 (FS ⊗ k0p45) (hz_of w l t r)
+unfolding hz_of of_bits proves
+hz_runs w l t r g h a b c =
+    range k0p001 (FS ⊗ k0p45) (times (times (times (plus (leaf (word_from w g h)) (times (floored (leaf (level_range l a)) k0) (con TUNE_PER_PITCH_LEVEL))) (con HZ_PER_TUNE)) (leaf b)) (leaf c)) tt
 
 depth_in : (w : ℕ) (l : Float) → w ≤ 65535 → Level l → In binary32 k0 k65535 (of_int binary32 (pos w) ⊗ clamp_of (l ⊘ k127) k0 k1)
 unfolding of_bits proves
@@ -97,7 +103,7 @@ pub record TriggedIn (t : Trigged) : Type 0 where
   pub det2 : Ratio (get_or t.det 1 nan)
   pub w : WobbleIn t.w
 
-trig_in : (rise : Bool) (d : DualOsc) (w : Wobble) → DualIn d → WobbleIn w → TriggedIn (trig_of rise (record { ph1 = d.ph1; ph2 = d.ph2 }) d.det w)
+pub trig_in : (rise : Bool) (d : DualOsc) (w : Wobble) → DualIn d → WobbleIn w → TriggedIn (trig_of rise (record { ph1 = d.ph1; ph2 = d.ph2 }) d.det w)
 unfolding trig_of of_bits fits le lt eq
 trig_in true d w h k =
     let a = detune_in w k in

@@ -4,3 +4,4 @@ pub mod Kept
 pub mod Codes
 pub mod BeforeR7
 pub mod Silent
+pub mod Core

@@ -11,11 +11,15 @@ use lib.Ieee.Scale.{finite}
 use Rattle.line.proofs.Bools.{or_r, or_e}
 use Rattle.line.proofs.Range.{In, in_of}
 use Rattle.line.proofs.Whole.{of_int_in}
-use Rattle.float.specs.Consts.{k0, k65535}
+use Rattle.float.specs.Consts.{k0, k1, k65535}
 
 -- ---- an unsigned word as a float
 pub word_range : (w : ℕ) → w ≤ 65535 → In binary32 k0 k65535 (of_int binary32 (pos w))
 word_range w h = unfold of_bits of_int round fits le lt eq in of_int_in binary32 (pos 0) (pos 65535) k0 k65535 (pos w) (le→leb 0 w (omega arith)) (le→leb w 65535 h) tt
+
+-- and one other than 0
+pub word_from : (w : ℕ) → 1 ≤ w → w ≤ 65535 → In binary32 k1 k65535 (of_int binary32 (pos w))
+word_from w g h = unfold of_bits of_int round fits le lt eq in of_int_in binary32 (pos 1) (pos 65535) k1 k65535 (pos w) (le→leb 1 w g) (le→leb w 65535 h) tt
 
 -- ---- a number
 odd_number : (d : ℕ) (s : Bool) (q k l : ℕ) → T (not (is_nan (odd d s q k l)))

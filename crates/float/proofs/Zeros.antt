@@ -2,20 +2,24 @@
 use Prim.Native.Nat.{ℕ, zero, suc, ◌+◌, ◌-◌, ◌*◌, ◌^◌, ◌≤◌, ◌<◌}
 use native.Mathlib.Nat.{add-zero, zero-add, sub-zero, zero-lt-suc, zero-mul, mul-pos}
 use Rattle.std.proofs.Common.{le-ltb, lt-ltb}
+use Rattle.std.proofs.lemmas.Float.{lt_irrefl, lt_of_lt_of_le}
 use native.Mathlib.Omega.{arith}
 use mathlib.Core.Path.{◌≡◌, refl, sym, ap, ◌∙◌, subst}
 use mathlib.Core.Bool.{Bool, true, false, true≢false, not, ◌&&◌, ◌||◌, cond, beq}
 use lib.Dec.{T, ltb, eqb, ltb→lt, eqb→eq}
 use lib.IntN.{ℤ}
 use lib.Pow.{pow_pos}
-use lib.Ieee.{Float, nan, inf, fin, Format, binary32, prec, emax, low, up, down, round, units, odd, sum, add, lt, le, eq, fits, of_bits}
-use lib.Ieee.Fits.{and_l, add-fits, up_pos, down_pos}
+use lib.Ieee.{Float, nan, inf, fin, Format, binary32, prec, emax, low, up, down, round, units, odd, sum, add, rem, lt, le, eq, fits, of_bits}
+use lib.Ieee.Fits.{and_l, add-fits, rem-fits, up_pos, down_pos}
 use Rattle.line.proofs.Bools.{or_e}
 use Rattle.line.proofs.Units.{Is, add_is}
 use Rattle.line.proofs.Rounds.{rep_same, exact_at}
 use Rattle.line.proofs.Exact.{value_unique}
 use Rattle.line.proofs.Mono.{good_is, units_of, round_le}
-use Rattle.float.specs.Consts.{k0}
+use Rattle.line.proofs.Range.{In}
+use Rattle.line.proofs.Rem.{one, nought, rem_is, rem_part, part_unit}
+use Rattle.float.specs.Consts.{k0, k1}
+use Rattle.float.specs.Floats.{fract_of, rem_euclid_of}
 use Rattle.float.proofs.Laws.{minus_zero}
 
 -- ---- what is rounded
@@ -172,3 +176,38 @@ pub data Alike (x y : Float) : Type 0 where
 pub alike_plus : (x y w : Float) → Alike x y → T (fits binary32 w) → T (not (minus_zero w)) → add binary32 x w ≡ add binary32 y w
 alike_plus x y w (same e) f h = ap (λ (z : Float). add binary32 z w) e
 alike_plus x y w (zeros fx ex fy ey) f h = zero_plus x w fx ex f h ∙ sym (zero_plus y w fy ey f h)
+
+-- a number other than zero is not -0
+pub positive : (x : Float) → T (lt k0 x) → T (not (minus_zero x))
+unfolding lt of_bits
+positive nan t = tt
+positive (inf s) t = tt
+positive (fin s (suc m) e) t = tt
+positive (fin false zero e) t = tt
+positive (fin true zero e) t = absurd t
+
+pub negative : (x : Float) → T (lt x k0) → T (not (minus_zero x))
+unfolding lt of_bits
+negative nan t = tt
+negative (inf s) t = tt
+negative (fin s (suc m) e) t = tt
+negative (fin false zero e) t = tt
+negative (fin true zero e) t = absurd (omega (arith, ltb→lt 0 (0 * up e * 1 + 0 * down e) t, zero-mul (up e), zero-mul (down e)))
+
+-- ---- the two remainders by 1, of a number above zero
+pub below_not : (a b : Float) → T (le a b) → lt b a ≡ false
+below_not a b h = by (lt b a) refl
+  where
+    by : (c : Bool) → lt b a ≡ c → c ≡ false
+    by true e = absurd (lt_irrefl b (lt_of_lt_of_le b a b (subst T (sym e) tt) h))
+    by false e = refl
+
+pub rem_euclid_fract : (x : Float) → T (fits binary32 x) → T (lt k0 x) → rem_euclid_of x k1 ≡ fract_of x
+unfolding rem_euclid_of fract_of of_bits
+rem_euclid_fract nan f t = absurd (unfold lt in t)
+rem_euclid_fract (inf s) f t = unfold rem add lt in refl
+rem_euclid_fract (fin true m e) f t = absurd (unfold lt in t)
+rem_euclid_fract (fin false m e) f t =
+    let r = rem binary32 (fin false m e) one in
+    let i : In binary32 nought one r = part_unit binary32 r (rem-fits binary32 (fin false m e) one f) (rem_part binary32 (fin false m e) (f, tt)) in
+    rw (below_not nought r i.from) (sym (plus_zero r nought i.ok.0 (rw (rem_is binary32 false m e) (plus_round binary32 _ _)) (unfold fits in tt) (unfold eq in tt)))

@@ -1,16 +1,20 @@
 -- A waveform of a phase from 0 to 1 lies from -2 to 2, and both phase rules end from 0 to below 1. Assumes nothing.
 use mathlib.Core.Path.{◌≡◌, refl}
-use mathlib.Core.Bool.{Bool, true, false, ◌&&◌, cond}
+use mathlib.Core.Bool.{Bool, true, false, not, ◌&&◌, cond}
 use lib.Dec.{T}
-use lib.Ieee.{Float, binary32, neg, lt, le, eq, fits, of_bits}
+use lib.IntN.{negsuc}
+use lib.Ieee.{Float, nan, inf, fin, binary32, neg, lt, le, eq, fits, is_nan, of_bits}
 use lib.Ieee.Fits.{and_l, and_r, div-fits}
 use lib.Ieee.Scale.{finite}
+use Rattle.std.proofs.lemmas.Float.{lt_of_lt_of_le}
 use Rattle.line.proofs.Range.{In, good, in_of, in_cond, in_wide, cut_high, cut_low, lt→le, le→lt, not_lt, good_of, largest, finite_in}
-use Rattle.float.specs.Consts.{k0, k1, k2, k3, k4, k8, k127, FS, k65535, k0p25, k0p3, k0p35, k0p45, k0p5, k0p7, k1p01, k1p3, TAU}
+use Rattle.float.specs.Consts.{k0, k1, k2, k3, k4, k8, k127, FS, k65535, k0p001, k0p25, k0p3, k0p35, k0p45, k0p5, k0p7, k1p01, k1p3, TAU}
 use Rattle.float.specs.Ops.{◌⊕◌, ◌⊖◌, ◌⊗◌, ◌⊘◌}
 use Rattle.float.specs.Floats.{min_of, fract_of, rem_euclid_of}
 use Rattle.float.proofs.Eval.{leaf, con, plus, minus, times, over, capped, range, proves}
-use Rattle.float.proofs.Laws.{fract_in, fract_below, rem_euclid_in, abs_in}
+use Rattle.float.proofs.Laws.{fract_in, fract_not_one, fract_below, rem_euclid_in, abs_in}
+use Rattle.float.proofs.Zeros.{below_not, rem_euclid_fract}
+use Rattle.fixed.proofs.Order.{same_number}
 use Rattle.sine.specs.Sine.{sin_of}
 use Rattle.sine.proofs.Laws.{sin_in}
 use Rattle.wobble.proofs.Kept.{Unit}
@@ -97,3 +101,21 @@ advanced_fm_in true p v w o h a b c =
     advanced_fm_below p (min_of v (FS ⊗ k0p45) ⊗ (k1 ⊕ w ⊘ FM_UNITS ⊗ o)) FS h.unit.ok.0 (turn_below p h)
     (range (neg k127) k127 (over (times (capped (leaf a) (FS ⊗ k0p45)) (plus (con k1) (times (over (leaf b) FM_UNITS) (leaf c)))) FS) tt).ok.1
 advanced_fm_in false p v w o h a b c = advanced_fm_below p (min_of v (FS ⊗ k0p45)) FS h.unit.ok.0 (turn_below p h) (range (neg k127) k127 (over (capped (leaf a) (FS ⊗ k0p45)) FS) tt).ok.1
+
+-- ---- without modulation both rules are the same, at a frequency that is no zero and below the second one's limit
+pub uncapped : (v : Float) → In binary32 k0p001 (FS ⊗ k0p45) v → min_of v (FS ⊗ k0p45) ≡ v
+unfolding min_of is_nan
+uncapped v h = rw (below_not v (FS ⊗ k0p45) h.upto, same_number v (number v h.ok.1)) refl
+  where
+    number : (x : Float) → T (finite x) → T (not (is_nan x))
+    number nan t = t
+    number (inf s) t = tt
+    number (fin s m e) t = tt
+
+pub advanced_alike : (p v : Float) → Unit p → In binary32 k0p001 k65535 v → advanced_fm p v FS ≡ advanced p v FS
+unfolding advanced advanced_fm of_bits proves
+advanced_alike p v h k =
+    let x = p ⊕ v ⊘ FS in
+    let small = fin false 1 (negsuc 29) in
+    let i : In binary32 small k3 x = range small k3 (plus (leaf h) (over (leaf k) FS)) tt in
+    rw (rem_euclid_fract x i.ok.0 (lt_of_lt_of_le k0 small x (unfold lt in tt) i.from), fract_not_one x i.ok.0) refl

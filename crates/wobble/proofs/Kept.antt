@@ -1,4 +1,4 @@
--- The random source and the drift stay within their ranges: a draw lies from -1 to 1, a detune and a drift's ratio from a half to 2, the drift from -128 to 128 cents,
+-- The random source and the drift stay within their ranges: a draw lies from -1 to 1, a detune and a drift's ratio from 0.5 to 1.5, the drift from -128 to 128 cents,
 -- since at 127 and beyond the pull back exceeds the largest kick. Assumes nothing.
 use Prim.Native.Nat.{ℕ, ◌-◌, ◌*◌, ◌/◌, ◌%◌, ◌^◌, ◌≤◌, ◌<◌}
 use native.Mathlib.Nat.{mod-lt, lt_of_le_of_lt, le_of_lt, div-le_self}
@@ -10,22 +10,22 @@ use lib.Count.{count_leading_zeros}
 use lib.Dec.{ltb, le→leb}
 use lib.IntN.{pos}
 use lib.Pow.{pow_pos}
-use lib.Ieee.{Float, binary32, fin, neg, le, eq, add, sub, mul, div, lt, fits, round, of_int, of_bits, to_bits}
-use Rattle.line.proofs.Range.{In, in_cond, in_wide, split}
+use lib.Ieee.{Float, binary32, neg, add, sub, mul, div, lt, fits, round, of_int, of_bits, to_bits}
+use Rattle.line.proofs.Range.{In, in_cond, split}
 use Rattle.line.proofs.Rem.{nought_in}
 use Rattle.line.proofs.Whole.{of_int_in}
-use Rattle.float.specs.Consts.{k0, k1, k2, k3, k127, k1200, FS, k0p5, k_m128, k_u_max}
+use Rattle.float.specs.Consts.{k0, k1, k2, k3, k127, k1200, FS, k0p5, k1p5, k_m128, k_u_max}
 use Rattle.float.specs.Ops.{◌⊕◌, ◌⊖◌, ◌⊗◌, ◌⊘◌}
 use Rattle.float.proofs.Eval.{Ex, leaf, con, plus, minus, times, over, range, proves}
 use Rattle.root.specs.Root.{sqrt_of}
 use Rattle.power.specs.Power.{exp2_of}
-use Rattle.power.proofs.Laws.{exp2_octave}
+use Rattle.power.proofs.Laws.{exp2_half}
 use Rattle.wobble.specs.declared.Wobble.{Wobble}
 use Rattle.wobble.specs.declared.Drift.{Drift}
 use Rattle.wobble.specs.declared.Drawn.{Drawn}
 use Rattle.wobble.specs.Wobble.{DETUNE_CENTS, DRIFT_CENTS, DRIFT_TAU, DRIFT_EVERY, xorshift_of, uni_of, detune_of, phase_of, cents_of, drift_of}
 
--- from 0 to 1, from -1 to 1, and from a half to 2
+-- from 0 to 1, from -1 to 1, and from 0.5 to 1.5
 abbrev pub Unit : Float → Type 0
 Unit x = In binary32 k0 k1 x
 
@@ -33,7 +33,7 @@ abbrev pub Both : Float → Type 0
 Both x = In binary32 (neg k1) k1 x
 
 abbrev pub Ratio : Float → Type 0
-Ratio x = In binary32 k0p5 k2 x
+Ratio x = In binary32 k0p5 k1p5 x
 
 -- ---- the random source
 pub record WobbleIn (w : Wobble) : Type 0 where
@@ -124,19 +124,19 @@ module _ (c u d : Float) (k : Both u) (m : Unit d) where
   unfolding of_bits fits neg
   cents_in h = split h k127 tt (λ g. split g (neg k127) tt bottom middle) top
 
-exp2_half : (t : Float) → In binary32 (neg k0p5) k0p5 t → Ratio (exp2_of t)
-unfolding of_bits
-exp2_half t h = exp2_octave (unfold fits le lt eq neg in in_wide binary32 (fin true 1 (pos 0)) (fin false 1 (pos 0)) h tt)
+ratio_of : (t : Float) → In binary32 (neg k0p5) k0p5 t → Ratio (exp2_of t)
+unfolding of_bits neg
+ratio_of t h = exp2_half h
 
 pub detune_in : (w : Wobble) → WobbleIn w → WobbleIn (detune_of w DETUNE_CENTS).w × Ratio (detune_of w DETUNE_CENTS).x
 unfolding detune_of
-detune_in w h = let r = uni_in w h in (r.0, exp2_half _ (small (uni_of w).x w.depth r.1 h.depth))
+detune_in w h = let r = uni_in w h in (r.0, ratio_of _ (small (uni_of w).x w.depth r.1 h.depth))
   where
     small : (u d : Float) → Both u → Unit d → In binary32 (neg k0p5) k0p5 (u ⊗ DETUNE_CENTS ⊗ d ⊘ k1200)
     small u d a b = unfold proves of_bits in range (neg k0p5) k0p5 (over (times (times (leaf a) (con DETUNE_CENTS)) (leaf b)) k1200) tt
 
 ratio_in : (c : Float) → In binary32 k_m128 (neg k_m128) c → Ratio (exp2_of (c ⊘ k1200))
-ratio_in c h = exp2_half (c ⊘ k1200) small
+ratio_in c h = ratio_of (c ⊘ k1200) small
   where
     small : In binary32 (neg k0p5) k0p5 (c ⊘ k1200)
     small = unfold proves of_bits in range (neg k0p5) k0p5 (over (leaf h) k1200) tt

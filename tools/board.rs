@@ -170,17 +170,14 @@ impl Report {
         let before = twin.board;
         let lent = (case.frame.to_vec(), case.dac.to_vec(), case.fx.to_vec());
         let asked = self.questions.as_mut().map(|q| q.ask(&twin.port, case));
-        let Sides { port: ours, rust: theirs, same, raw } = match copy {
+        let Sides { port: ours, rust: theirs, same } = match copy {
             Some(copy) => receive::call(&mut twin.port, &mut twin.rust, case, copy, &mut self.copies),
-            None => {
-                let rust = sides::rust_step(&mut twin.rust, case);
-                Sides { port: sides::port_step(&mut twin.port, case), rust, same: true, raw: rust.rx }
-            }
+            None => Sides { rust: sides::rust_step(&mut twin.rust, case), port: sides::port_step(&mut twin.port, case), same: true },
         };
         let apart = oracle::sides_apart() > 0;
         let written = !same || lent.0 != case.frame || lent.1 != case.dac || lent.2 != case.fx;
         twin.board = theirs.board;
-        self.met.note(&before, case, &Answer { rx: raw, ..theirs }, apart);
+        self.met.note(&before, case, &theirs, apart);
         let at = self.steps;
         self.steps += 1;
         let tell = || {
@@ -197,7 +194,7 @@ impl Report {
         }
         if written {
             if self.differ == 0 {
-                println!("step {at} wrote lent memory, or not the words of the copy: {place}");
+                println!("step {at} wrote other lent memory than the copy: {place}");
                 case.print();
                 if let Some(copy) = copy {
                     copy.print();

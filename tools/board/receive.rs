@@ -49,11 +49,12 @@ impl Lent {
         &mut self.memory[ROOM..ROOM + self.room]
     }
 
-    /// Takes MAIN's words out of a copy, to their places among the raw ones.
-    fn take_main(&mut self) -> [i32; 12] {
+    /// Takes the words out of a copy, to their places among the raw ones.
+    fn take(&mut self) -> [i32; 12] {
         let mut rx = [0; 12];
-        for (raw, copy) in rx[10..].iter_mut().zip(self.dest()) {
-            *raw = std::mem::take(copy).wrapping_neg();
+        let voices: Vec<usize> = self.slots.iter().map(|&v| v as usize).collect();
+        for (raw, copy) in [10, 11].iter().chain(&voices).chain(&[8, 9]).zip(self.dest()) {
+            rx[*raw] = std::mem::take(copy).wrapping_neg();
         }
         rx
     }
@@ -147,12 +148,11 @@ impl Met {
     }
 }
 
-/// The two sides of one call: their answers, of the words MAIN's alone; whether all memory but these is the same; the Rust's raw words.
+/// The two sides of one call: their answers, the copy's words at their raw places; whether all memory but the copy is the same.
 pub struct Sides {
     pub port: Answer,
     pub rust: Answer,
     pub same: bool,
-    pub raw: [i32; 12],
 }
 
 pub fn call(port: &mut Board, rust: &mut rust::Analog, case: &Case, lent: &Lent, met: &mut Met) -> Sides {
@@ -161,15 +161,13 @@ pub fn call(port: &mut Board, rust: &mut rust::Analog, case: &Case, lent: &Lent,
     let mut port = Answer { number: answer.number, rx: [0; 12], mix: answer.mix, board: *port.state() };
     let number = lent.number(case);
     met.note(lent, case, number);
-    let mut raw = [0; 12];
     let rust = if number == 0 {
         let step = sides::rust_step(rust, case);
-        raw = step.rx;
         theirs.dest().copy_from_slice(&copied(&step.rx, &lent.slots));
-        port.rx = ours.take_main();
-        Answer { rx: theirs.take_main(), ..step }
+        port.rx = ours.take();
+        Answer { rx: theirs.take(), ..step }
     } else {
         Answer { number, rx: [0; 12], mix: Mix { l: 0.0, r: 0.0 }, board: Analog::of(rust) }
     };
-    Sides { port, rust, same: ours.memory == theirs.memory && ours.slots == lent.slots, raw }
+    Sides { port, rust, same: ours.memory == theirs.memory && ours.slots == lent.slots }
 }

@@ -12,8 +12,9 @@
 //!     --record FILE       writes a recording of N generated steps of all styles (at most 4096), and compares nothing
 //!
 //! What a request changes is counted by itself where the oracle (tools/oracle) is without it: of R-3 the FM phases, which have to be all that it met; of R-5 the
-//! steps whose mix differs, each of which has to be one with a chain whose sides are apart, and if generated steps met such a chain there have to be some. A step
-//! that differs in anything else is a difference.
+//! steps whose mix differs, each of which has to be one with a chain whose sides are apart, and if generated steps met such a chain there have to be some; of R-7
+//! the steps with a plain path sounding that differ, and again there have to be some. Each step with a plain path sounding also has to be answered as the port
+//! does of the same board and of the frame with the wave switches turned; --why then asks of that frame too. A step that differs in anything else is a difference.
 //!
 //! Links board_c why_c curves_c.
 
@@ -55,6 +56,8 @@ mod sides;
 mod strips;
 #[path = "board/why.rs"]
 mod why;
+#[path = "board/without.rs"]
+mod without;
 
 use case::Case;
 use desk::Desk;
@@ -69,6 +72,7 @@ use recording::{Recording, Writer};
 use rng::Rng;
 use rytm::{Analog, Answer, Board, Mix};
 use why::Questions;
+use without::{Cases, Found, Without};
 
 /// One board on both sides.
 struct Twin {
@@ -83,12 +87,11 @@ struct Twin {
 struct Report {
     steps: u64,
     differ: u64,
-    /// Steps that differ in each field.
+    /// The fields of an answer, and how often each differed.
+    names: Names,
     of: Vec<u64>,
-    /// FM phases of 1 in an oracle without R-3 where the port has 0.
-    phases: u64,
-    /// Steps whose mix is another in an oracle without R-5.
-    mixes: u64,
+    /// What differs as a request has it that the oracle is without.
+    without: Without,
     met: Met,
     copies: receive::Met,
     /// Where the port is asked why a voice adds nothing.
@@ -100,7 +103,9 @@ struct Report {
 impl Report {
     fn new(questions: Option<Questions>) -> Report {
         let (met, copies, curves) = (Met::new(), receive::Met::new(), [counted::take(); 2]);
-        Report { steps: 0, differ: 0, of: Vec::new(), phases: 0, mixes: 0, met, copies, questions, curves }
+        let names = sides::names(&answer(Analog::of(&rust::Analog::fresh(1, false))));
+        let of = vec![0; names.words.len()];
+        Report { steps: 0, differ: 0, names, of, without: Without::default(), met, copies, questions, curves }
     }
 
     /// Takes the counts of the curve calls since the last time.
@@ -133,34 +138,29 @@ impl Report {
         let (port, rust) = (Board::fresh(seed, ideal), rust::Analog::fresh(seed, ideal));
         let board = Analog::of(&rust);
         self.met.fresh(seed, ideal);
-        let of = |board: Analog| Answer { number: 0, rx: [0; 12], mix: Mix { l: 0.0, r: 0.0 }, board };
-        if self.differs(&of(*port.state()), &of(board), false, || println!("fresh boards differ: seed {seed}, ideal {ideal}")) {
+        let place = || println!("fresh boards differ: seed {seed}, ideal {ideal}");
+        if self.differs(&answer(*port.state()), &answer(board), Cases::default(), place) {
             return Twin { port: Board::of(board), rust, board, random: false };
         }
         Twin { port, rust, board, random: false }
     }
 
-    /// Whether the port's answer differs from the Rust's, of a step with a chain's sides apart or not; the first time all of it is told.
-    fn differs(&mut self, port: &Answer, rust: &Answer, apart: bool, place: impl Fn()) -> bool {
+    /// Whether the port's answer differs from the Rust's, of a step that met these cases; the first time all of it is told.
+    fn differs(&mut self, port: &Answer, rust: &Answer, cases: Cases, place: impl Fn()) -> bool {
         let (ours, theirs) = (sides::row(port), sides::row(rust));
         if ours == theirs {
             return false;
         }
-        let names = sides::names(rust);
-        self.of.resize(names.words.len(), 0);
-        let fields = ours.against(&theirs, &names);
-        let phases = phases(port, rust);
-        let mixed = if apart { mixed(&fields, &names) } else { 0 };
-        let other = fields.len() as u64 > phases + mixed;
-        let first = phases > 0 && self.phases == 0 || mixed > 0 && self.mixes == 0;
-        if other && self.differ == 0 || !other && first {
+        let fields = ours.against(&theirs, &self.names);
+        let named: Vec<&str> = fields.iter().map(|(i, _)| self.names.words[*i].0.as_str()).collect();
+        let found = Found::new(&named, port, rust, cases);
+        let first = self.without.note(&found);
+        if found.other && self.differ == 0 || !found.other && first {
             place();
             fields.iter().for_each(|(_, text)| println!("  {text}"));
         }
         fields.iter().for_each(|(i, _)| self.of[*i] += 1);
-        self.phases += phases;
-        self.mixes += (mixed > 0) as u64;
-        self.differ += other as u64;
+        self.differ += found.other as u64;
         true
     }
 
@@ -169,15 +169,17 @@ impl Report {
     fn step(&mut self, twin: &mut Twin, case: &Case, copy: Option<&Lent>, place: &str) -> Answer {
         let before = twin.board;
         let lent = (case.frame.to_vec(), case.dac.to_vec(), case.fx.to_vec());
-        let asked = self.questions.as_mut().map(|q| q.ask(&twin.port, case));
+        let frame = without::turned(case.frame);
+        let (mut other, turned) = (twin.port, Case { frame: &frame, ..*case });
+        let asked = self.questions.as_mut().map(|q| q.ask(&twin.port, &turned));
         let Sides { port: ours, rust: theirs, same } = match copy {
             Some(copy) => receive::call(&mut twin.port, &mut twin.rust, case, copy, &mut self.copies),
             None => Sides { rust: sides::rust_step(&mut twin.rust, case), port: sides::port_step(&mut twin.port, case), same: true },
         };
-        let apart = oracle::sides_apart() > 0;
+        let cases = Cases::take();
         let written = !same || lent.0 != case.frame || lent.1 != case.dac || lent.2 != case.fx;
         twin.board = theirs.board;
-        self.met.note(&before, case, &theirs, apart);
+        self.met.note(&before, case, &theirs, cases);
         let at = self.steps;
         self.steps += 1;
         let tell = || {
@@ -186,10 +188,23 @@ impl Report {
             if let Some(copy) = copy {
                 copy.print();
             }
-            let of = Answer { board: before, ..theirs };
+            let of = answer(before);
             println!("  board before: {}", sides::row(&of).all(&sides::names(&of), 15));
         };
-        if self.differs(&ours, &theirs, apart, tell) {
+        let differs = if oracle::R7 || cases.plain == 0 {
+            self.differs(&ours, &theirs, cases, tell)
+        } else {
+            // The Rust has to answer as the port does of the turned frame; what is apart from that answer in the port's own is R-7's.
+            let (answer, wrong) = (sides::port_step(&mut other, &turned), self.differ);
+            let place = || {
+                tell();
+                println!("  with the wave switches turned:");
+            };
+            let differs = self.differs(&answer, &theirs, Cases { plain: 0, ..cases }, place);
+            self.without.turned += (self.differ == wrong) as u64;
+            self.differs(&ours, &answer, Cases { apart: false, ..cases }, tell) || differs
+        };
+        if differs {
             twin.port = Board::of(theirs.board);
         }
         if written {
@@ -224,43 +239,21 @@ impl Report {
             }
             self.print_curves();
         }
-        if !self.of.is_empty() {
-            let board = Analog::of(&rust::Analog::fresh(1, false));
-            let names = sides::names(&Answer { number: 0, rx: [0; 12], mix: Mix { l: 0.0, r: 0.0 }, board });
-            let open: Vec<String> = (0..self.of.len()).filter(|&i| self.of[i] > 0).map(|i| format!("{} {}", names.words[i].0, self.of[i])).collect();
+        let open: Vec<String> = self.names.words.iter().zip(&self.of).filter(|(_, n)| **n > 0).map(|((name, _), n)| format!("{name} {n}")).collect();
+        if !open.is_empty() {
             println!("differing fields: {}", open.join(", "));
         }
-        let (ones, apart) = (self.met.fm_ones(), self.met.apart());
-        if !oracle::R3 {
-            println!("FM phases of 1 in the Rust and 0 in the port: {}, met in the Rust: {ones}", self.phases);
-        }
-        if !oracle::R5 {
-            println!("steps whose mix differs: {}, of {apart} with a chain whose sides are apart", self.mixes);
-        }
-        let these = if oracle::R3 && oracle::R5 { "" } else { " but these" };
+        let undone = self.without.end(&self.met, generated);
+        let these = if oracle::R3 && oracle::R5 && oracle::R7 { "" } else { " but these" };
         let (questions, wrong, unmet) = self.questions.as_ref().map_or((String::new(), 0, false), |q| q.end(self.steps, generated));
         println!("compared {} steps{questions}: {} differences{these}", self.steps, self.differ + wrong);
-        let unheard = !oracle::R5 && generated && apart > 0 && self.mixes == 0;
-        std::process::exit((self.differ + wrong != 0 || !oracle::R3 && self.phases != ones || unheard || unmet) as i32);
+        std::process::exit((self.differ + wrong != 0 || undone || unmet) as i32);
     }
 }
 
-/// FM phases that differ as R-3 has it, where the oracle is without it: 1 in the Rust, 0 in the port.
-fn phases(port: &Answer, rust: &Answer) -> u64 {
-    let pairs = port.board.duals.iter().zip(&rust.board.duals);
-    pairs.filter(|(p, r)| !oracle::R3 && p.ph1.to_bits() == 0 && r.ph1 == 1.0).count() as u64
-}
-
-/// Fields that differ as R-5 has it, where the oracle is without it: the right mix, the compressor, which hears it, and with the compressor's level the left mix.
-fn mixed(fields: &[(usize, String)], names: &Names) -> u64 {
-    let name = |i: usize| names.words[i].0.as_str();
-    let level = fields.iter().any(|(i, _)| name(*i) == "comp.env");
-    let of = |name| match name {
-        "rx[11]" | "mix.r" | "comp.env" | "comp.sc.lo" | "comp.sc.hi" => true,
-        "rx[10]" | "mix.l" => level,
-        _ => false,
-    };
-    fields.iter().filter(|(i, _)| !oracle::R5 && of(name(*i))).count() as u64
+/// A board as an answer without words and mix.
+fn answer(board: Analog) -> Answer {
+    Answer { number: 0, rx: [0; 12], mix: Mix { l: 0.0, r: 0.0 }, board }
 }
 
 /// A value that is not finite stays in these for ever, or for long.

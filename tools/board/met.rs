@@ -6,6 +6,7 @@ use crate::oracle::analog as rust;
 use crate::rytm::{Analog, Answer, Chain, SegEnv};
 use crate::state::State;
 use crate::strips::AMP_ENV_R;
+use crate::without::Cases;
 
 macro_rules! counts {
     ($kind:ident $names:ident: $($id:ident $name:literal,)*) => {
@@ -76,6 +77,7 @@ counts! { Count NAMES:
     RightSounds "chain: right amp level above 0, left not",
     Mute "chain: both amp levels at or below 0",
     Apart "steps with a chain whose sides are apart",
+    Plain "steps with a plain path sounding",
     FltStart "chain: filter restarts",
     FltChange "chain: filter record changes, no restart",
     Driven "chain: overdriven",
@@ -170,13 +172,19 @@ impl Met {
         self.count[Count::Apart as usize]
     }
 
-    /// One step: the board before it, what it was given, the Rust's answer, and whether a chain's sides were apart.
-    pub fn note(&mut self, before: &Analog, case: &Case, answer: &Answer, apart: bool) {
+    /// How many steps had a plain path that sounded.
+    pub fn plain(&self) -> u64 {
+        self.count[Count::Plain as usize]
+    }
+
+    /// One step: the board before it, what it was given, the Rust's answer, and what it met of the requests' cases.
+    pub fn note(&mut self, before: &Analog, case: &Case, answer: &Answer, cases: Cases) {
         if let Some(n) = self.answers.get_mut(answer.number as usize) {
             *n += 1;
         }
         self.given(case, answer.number);
-        self.add(Count::Apart, apart);
+        self.add(Count::Apart, cases.apart);
+        self.add(Count::Plain, cases.plain != 0);
         if answer.number != 0 {
             return;
         }

@@ -54,7 +54,7 @@ pub fn put(f: &mut [u8], o: usize, w: u32) {
     f[o..o + 2].copy_from_slice(&(w as u16).to_be_bytes());
 }
 
-fn switch(f: &mut [u8], n: usize, on: bool) {
+pub fn switch(f: &mut [u8], n: usize, on: bool) {
     f[160 + n / 8] = f[160 + n / 8] & !(1 << (n % 8)) | (on as u8) << (n % 8);
 }
 

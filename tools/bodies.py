@@ -1,0 +1,32 @@
+"""What tools/fill-right and tools/turn-wave share: a recording (edition 1) read, each of its bodies changed, and written."""
+
+import os
+import struct
+import sys
+
+
+class Fault(Exception):
+    pass
+
+
+def change(usage, each):
+    """Takes the two files from the command line and gives each body to `each`, which changes it or raises a Fault. The file written and how many bodies it has."""
+    if len(sys.argv) != 3:
+        sys.exit(usage)
+    tool, recording, changed = os.path.basename(sys.argv[0]), *sys.argv[1:]
+    try:
+        with open(recording, "rb") as file:
+            made = memoryview(bytearray(file.read()))
+        steps, bodies = struct.unpack(">II", made[12:20])
+        first = 20 + 4 * steps
+        if made[:5] != b"RVBR\x01" or len(made) != first + 768 * bodies:
+            raise Fault("not a recording of edition 1")
+        for body in range(first, len(made), 768):
+            each(made[body:body + 768])
+        with open(changed, "wb") as file:
+            file.write(made)
+    except Fault as e:
+        sys.exit(f"{tool}: {recording}: {e}")
+    except (OSError, struct.error) as e:
+        sys.exit(f"{tool}: {e}")
+    return changed, bodies

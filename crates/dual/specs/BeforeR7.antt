@@ -1,6 +1,6 @@
 -- A dual voice as it was before R-7: without FM or ring oscillator 1 had saw added where its wave switch is set. `x_before` is `x_of` of specs/Dual.antt as it stood; what R-7 left
 -- alone is shared, and is today's. Definitions only.
-use Rattle.std.specs.Prelude.{ℕ, ◌≡◌, Bool, not, ◌&&◌, ◌||◌, cond, List, T, Float}
+use Rattle.std.specs.Prelude.{ℕ, ◌≡◌, Bool, not, ◌&&◌, ◌||◌, cond, List, eqb, T, Float}
 use Rattle.std.specs.Float.Ieee.{le}
 use Rattle.float.specs.Consts.{k1, k2, FS, k0p3, k0p7, k_m127p5, TAU}
 use Rattle.float.specs.Ops.{◌⊕◌, ◌⊖◌, ◌⊗◌}
@@ -36,9 +36,9 @@ pub record OnlyPlainChanged (f : List ℕ) (d : ℕ) (e : DualOsc) (w : Wobble) 
   pub dual : r.dual ≡ (sample_before f d e w).dual
   pub draws : r.w ≡ (sample_before f d e w).w
 
--- voice d sounds without FM or ring: its amp's level, after the tick, is above -127.5
+-- oscillator 1 of voice d sounds without FM or ring: its level word is not 0, and the amp's level, after the tick, is above -127.5
 unfoldable pub plain_sounds : List ℕ → ℕ → Float → Bool
-plain_sounds f d level = let i = settings_of f d in not (i.fm || i.ring) && not (le level k_m127p5)
+plain_sounds f d level = let i = settings_of f d in not (i.fm || i.ring) && not (eqb i.level1 0) && not (le level k_m127p5)
 
 -- the settings with oscillator 1's wave switch turned, where neither is on
 abbrev pub turned : Settings → Settings

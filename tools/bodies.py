@@ -1,8 +1,12 @@
-"""What tools/fill-right and tools/turn-wave share: a recording (edition 1) read, each of its bodies changed, and written."""
+"""What the tools of recordings (edition 1) share: where a dual voice stands in a frame, and a recording read, each of its bodies changed, and written."""
 
 import os
 import struct
 import sys
+
+
+# Of each dual voice its words, its records and its switches: trig, oscillator 1's wave, oscillator 2's code from its last bit on (2, 3 and 6), FM, and ring, which is on where its switch is clear.
+DUALS = {"BD": (90, 360, [12, 44, 8, 47, 46, 45, 40]), "SD": (98, 392, [0, 32, 36, 35, 34, 33, 56]), "RS": (106, 424, [28, 4, 24, 7, 6, 5, 60])}
 
 
 class Fault(Exception):

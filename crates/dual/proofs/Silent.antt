@@ -1,4 +1,4 @@
--- A dual voice whose amp is at or below -127.5 gives a zero, by today's plain path and by that of before R-7: so their samples are the same, or zeros. Assumes nothing.
+-- Where oscillator 1 does not sound without FM or ring, since the voice's amp is at or below -127.5 or its own level word is 0, today's sample and that of before R-7 are the same, or zeros. Assumes nothing.
 use Prim.Native.Nat.{ℕ, zero, suc, ◌≤◌}
 use native.Mathlib.Nat.{zero-mul}
 use mathlib.Core.Path.{◌≡◌, refl, sym, ap, subst, ◌∙◌}

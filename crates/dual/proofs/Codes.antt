@@ -1,6 +1,6 @@
 -- Oscillator 1 follows its code: what a sample gives is heard by one formula, with FM or ring and without. And the phases: an oscillator that runs moves on alike on both paths. Assumes nothing.
 use Prim.Native.Nat.{ℕ}
-use mathlib.Core.Path.{◌≡◌, refl, ap, ◌∙◌}
+use mathlib.Core.Path.{◌≡◌, refl, ap, ap₂, ◌∙◌}
 use mathlib.Core.Bool.{Bool, true, false, not, ◌&&◌, cond}
 use mathlib.Core.List.{List}
 use lib.Dec.{eqb}
@@ -8,10 +8,11 @@ use lib.Ieee.{Float, binary32, fits, le, lt, eq, mul, round, of_bits}
 use Rattle.line.proofs.Range.{In, in_wide}
 use Rattle.float.specs.Consts.{k0, k65535, FS, k0p001, k0p45}
 use Rattle.float.specs.Ops.{◌⊗◌}
+use Rattle.float.specs.Floats.{min_of}
 use Rattle.envelope.specs.Moves.{dual_of}
 use Rattle.vco.specs.declared.Pair.{Pair}
 use Rattle.vco.specs.declared.PairOut.{PairOut}
-use Rattle.vco.specs.Vco.{wave_from_bits, wave_at, osc_of, ring_of, modulated, pair_of}
+use Rattle.vco.specs.Vco.{wave_from_bits, wave_at, osc_of, ring_of, modulated, advanced, advanced_fm, pair_of}
 use Rattle.vco.proofs.Kept.{uncapped, advanced_alike}
 use Rattle.wobble.specs.declared.Wobble.{Wobble}
 use Rattle.wobble.proofs.Kept.{Unit}
@@ -32,7 +33,7 @@ sound_heard i p hz1 hz2 a = by i.fm i.ring i.wave1 refl refl refl
     by false false false e r s = rw (e, r, s) refl
 
 -- the phases after the trig
-trigged : (i : Settings) (e : DualOsc) (det : List Float) (w : Wobble) → (trig_of (i.trig && not e.trig) (record { ph1 = e.ph1; ph2 = e.ph2 }) det w).phases ≡ phases_of i e
+pub trigged : (i : Settings) (e : DualOsc) (det : List Float) (w : Wobble) → (trig_of (i.trig && not e.trig) (record { ph1 = e.ph1; ph2 = e.ph2 }) det w).phases ≡ phases_of i e
 unfolding trig_of
 trigged i e det w = by (i.trig && not e.trig)
   where
@@ -54,11 +55,25 @@ unfolding sample_of sample_by
 follows_its_code f d e w = sample_heard sound_of (heard_of (settings_of f d)) f d e w (sound_heard (settings_of f d))
 
 -- ---- and the phases
--- where neither oscillator is stopped and the frequencies lie as `hz_runs` has them, the core with neither FM nor ring takes the phases where the plain path does
-pub same_phases : (i : Settings) (p : Pair) (hz1 hz2 a : Float) → i.fm ≡ false → eqb i.tune1 0 ≡ false → eqb i.tune2 0 ≡ false → Unit p.ph1 → In binary32 k0p001 (FS ⊗ k0p45) hz1 → In binary32 k0p001 (FS ⊗ k0p45) hz2
-    → (paired_of i p hz1 hz2 a).pair ≡ (plain_of i p hz1 hz2).pair
-unfolding paired_of plain_of pair_of modulated
-same_phases i p hz1 hz2 a e s t h f g = rw (e, s, t, uncapped hz1 f, uncapped hz2 g, advanced_alike p.ph1 hz1 h wide) refl
-  where
-    wide : In binary32 k0p001 k65535 hz1
-    wide = unfold fits le lt eq mul round of_bits in in_wide binary32 k0p001 k65535 f tt
+wide : (hz : Float) → In binary32 k0p001 (FS ⊗ k0p45) hz → In binary32 k0p001 k65535 hz
+wide hz h = unfold fits le lt eq mul round of_bits in in_wide binary32 k0p001 k65535 h tt
+
+-- with neither FM nor ring on the core takes each phase where the plain path does, but for an oscillator whose tune word is 0, which stands still there: at frequencies as `hz_runs` has them
+abbrev pub Runs : ℕ → Float → Type 0
+Runs tune hz = eqb tune 0 ≡ false → In binary32 k0p001 (FS ⊗ k0p45) hz
+
+module _ (i : Settings) (p : Pair) (hz1 hz2 a : Float) where
+  pub same_phases : i.fm ≡ false → Unit p.ph1 → Runs i.tune1 hz1 → Runs i.tune2 hz2
+      → (paired_of i p hz1 hz2 a).pair ≡ (let o = (plain_of i p hz1 hz2).pair in record { ph1 = cond (eqb i.tune1 0) p.ph1 o.ph1; ph2 = cond (eqb i.tune2 0) p.ph2 o.ph2 })
+  unfolding paired_of plain_of pair_of modulated
+  same_phases e h f g = rw e (ap₂ (λ (x y : Float). record { ph1 = x; ph2 = y }) (first (eqb i.tune1 0) f) (second (eqb i.tune2 0) g))
+    where
+      first : (stopped : Bool) → (stopped ≡ false → In binary32 k0p001 (FS ⊗ k0p45) hz1)
+          → cond stopped p.ph1 (advanced_fm p.ph1 (min_of hz1 (FS ⊗ k0p45)) FS) ≡ cond stopped p.ph1 (advanced p.ph1 hz1 FS)
+      first true f = refl
+      first false f = let k = f refl in rw (uncapped hz1 k, advanced_alike p.ph1 hz1 h (wide hz1 k)) refl
+
+      second : (stopped : Bool) → (stopped ≡ false → In binary32 k0p001 (FS ⊗ k0p45) hz2)
+          → cond stopped p.ph2 (advanced p.ph2 (min_of hz2 (FS ⊗ k0p45)) FS) ≡ cond stopped p.ph2 (advanced p.ph2 hz2 FS)
+      second true g = refl
+      second false g = rw (uncapped hz2 (g refl)) refl

@@ -1,4 +1,4 @@
--- Draws on a hit and the bank keep six phases from 0 to 1 and six detunes from a half to 2. Assumes nothing.
+-- Draws on a hit and the bank keep six phases from 0 to 1 and six detunes from 0.5 to 1.5. Assumes nothing.
 use Prim.Native.Nat.{ℕ, ◌+◌, ◌*◌, ◌^◌, ◌<◌}
 use native.Mathlib.Omega.{arith}
 use native.Mathlib.Nat.{le_of_lt}

@@ -7,7 +7,7 @@ use lib.ListN.{replicate, get_or-replicate}
 use lib.Dec.{eqb}
 use lib.Ieee.{Float, binary32, nan, fits, le, lt, eq, neg, of_bits}
 use Rattle.line.proofs.Range.{in_of}
-use Rattle.float.specs.Consts.{k0, k1, k2, k0p5, k_m128}
+use Rattle.float.specs.Consts.{k0, k1, k0p5, k1p5, k_m128}
 use Rattle.envelope.specs.declared.Env.{Env}
 use Rattle.envelope.specs.Levels.{Level}
 use Rattle.vco.proofs.Kept.{turn_of_lem}
@@ -47,7 +47,7 @@ unit_1 = in_of binary32 k0 k1 k1 tt tt tt tt
 
 ratio_1 : Ratio k1
 unfolding of_bits fits le lt eq
-ratio_1 = in_of binary32 k0p5 k2 k1 tt tt tt tt
+ratio_1 = in_of binary32 k0p5 k1p5 k1 tt tt tt tt
 
 drift_in : DriftIn drift_new
 unfolding drift_new of_bits fits neg le lt eq

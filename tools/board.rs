@@ -13,8 +13,9 @@
 //!
 //! What a request changes is counted by itself where the oracle (tools/oracle) is without it: of R-3 the FM phases, which have to be all that it met; of R-5 the
 //! steps whose mix differs, each of which has to be one with a chain whose sides are apart, and if generated steps met such a chain there have to be some; of R-7
-//! the steps with a plain path sounding that differ, and again there have to be some. Each step with a plain path sounding also has to be answered as the port
-//! does of the same board and of the frame with the wave switches turned; --why then asks of that frame too. A step that differs in anything else is a difference.
+//! the steps with a plain path sounding, an oscillator 1 without FM or ring, that differ, and again there have to be some. Each such step also has to be answered as
+//! the port does of the same board and of the frame with the wave switches turned, and --why asks of that frame instead. A step that differs in anything else is a
+//! difference.
 //!
 //! Links board_c why_c curves_c.
 
@@ -71,6 +72,7 @@ use receive::{Lent, Sides};
 use recording::{Recording, Writer};
 use rng::Rng;
 use rytm::{Analog, Answer, Board, Mix};
+use std::collections::BTreeSet;
 use why::Questions;
 use without::{Cases, Found, Without};
 
@@ -98,6 +100,13 @@ struct Report {
     questions: Option<Questions>,
     /// Curve calls, of boards that came from fresh ones and of random ones.
     curves: [[counted::Count; counted::NAMES.len()]; 2],
+}
+
+/// The fields in which two answers differ, and whether any of them is one that no request left out changes.
+#[derive(Default)]
+struct Apart {
+    fields: Vec<usize>,
+    other: bool,
 }
 
 impl Report {
@@ -139,17 +148,18 @@ impl Report {
         let board = Analog::of(&rust);
         self.met.fresh(seed, ideal);
         let place = || println!("fresh boards differ: seed {seed}, ideal {ideal}");
-        if self.differs(&answer(*port.state()), &answer(board), Cases::default(), place) {
+        let found = self.differs(&answer(*port.state()), &answer(board), Cases::default(), place);
+        if self.count(&[found]) {
             return Twin { port: Board::of(board), rust, board, random: false };
         }
         Twin { port, rust, board, random: false }
     }
 
-    /// Whether the port's answer differs from the Rust's, of a step that met these cases; the first time all of it is told.
-    fn differs(&mut self, port: &Answer, rust: &Answer, cases: Cases, place: impl Fn()) -> bool {
+    /// In what the port's answer differs from the Rust's, of a step that met these cases; the first time all of it is told.
+    fn differs(&mut self, port: &Answer, rust: &Answer, cases: Cases, place: impl Fn()) -> Apart {
         let (ours, theirs) = (sides::row(port), sides::row(rust));
         if ours == theirs {
-            return false;
+            return Apart::default();
         }
         let fields = ours.against(&theirs, &self.names);
         let named: Vec<&str> = fields.iter().map(|(i, _)| self.names.words[*i].0.as_str()).collect();
@@ -159,9 +169,15 @@ impl Report {
             place();
             fields.iter().for_each(|(_, text)| println!("  {text}"));
         }
-        fields.iter().for_each(|(i, _)| self.of[*i] += 1);
-        self.differ += found.other as u64;
-        true
+        Apart { fields: fields.iter().map(|(i, _)| *i).collect(), other: found.other }
+    }
+
+    /// Counts a step, in what its comparisons found; whether that is anything.
+    fn count(&mut self, found: &[Apart]) -> bool {
+        let fields: BTreeSet<usize> = found.iter().flat_map(|a| &a.fields).copied().collect();
+        fields.iter().for_each(|&i| self.of[i] += 1);
+        self.differ += found.iter().any(|a| a.other) as u64;
+        !fields.is_empty()
     }
 
     /// One step by both, by the call that copies its words where something is lent for that; the port goes on from the Rust's
@@ -191,20 +207,20 @@ impl Report {
             let of = answer(before);
             println!("  board before: {}", sides::row(&of).all(&sides::names(&of), 15));
         };
-        let differs = if oracle::R7 || cases.plain == 0 {
-            self.differs(&ours, &theirs, cases, tell)
+        let found = if oracle::R7 || cases.plain == 0 {
+            vec![self.differs(&ours, &theirs, cases, tell)]
         } else {
             // The Rust has to answer as the port does of the turned frame; what is apart from that answer in the port's own is R-7's.
-            let (answer, wrong) = (sides::port_step(&mut other, &turned), self.differ);
+            let answer = sides::port_step(&mut other, &turned);
             let place = || {
                 tell();
                 println!("  with the wave switches turned:");
             };
-            let differs = self.differs(&answer, &theirs, Cases { plain: 0, ..cases }, place);
-            self.without.turned += (self.differ == wrong) as u64;
-            self.differs(&ours, &answer, Cases { apart: false, ..cases }, tell) || differs
+            let found = self.differs(&answer, &theirs, Cases { plain: 0, ..cases }, place);
+            self.without.turned += !found.other as u64;
+            vec![found, self.differs(&ours, &answer, Cases { apart: false, ..cases }, tell)]
         };
-        if differs {
+        if self.count(&found) {
             twin.port = Board::of(theirs.board);
         }
         if written {

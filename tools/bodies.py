@@ -21,16 +21,20 @@ def change(usage, each):
     try:
         with open(recording, "rb") as file:
             made = memoryview(bytearray(file.read()))
-        steps, bodies = struct.unpack(">II", made[12:20])
+        if len(made) < 20:
+            raise Fault("under 20 bytes")
+        letters, edition, ideal, zero, _, steps, bodies = struct.unpack(">4sBBHIII", made[:20])
+        if letters != b"RVBR" or edition != 1 or ideal > 1 or zero or not 1 <= steps <= 65536 or not 1 <= bodies <= 4096:
+            raise Fault("its opening is not one of edition 1")
         first = 20 + 4 * steps
-        if made[:5] != b"RVBR\x01" or len(made) != first + 768 * bodies:
-            raise Fault("not a recording of edition 1")
+        if len(made) != first + 768 * bodies:
+            raise Fault(f"{len(made)} bytes, where its opening asks for {first + 768 * bodies}")
         for body in range(first, len(made), 768):
             each(made[body:body + 768])
         with open(changed, "wb") as file:
             file.write(made)
     except Fault as e:
         sys.exit(f"{tool}: {recording}: {e}")
-    except (OSError, struct.error) as e:
+    except OSError as e:
         sys.exit(f"{tool}: {e}")
     return changed, bodies

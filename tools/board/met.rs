@@ -77,7 +77,7 @@ counts! { Count NAMES:
     RightSounds "chain: right amp level above 0, left not",
     Mute "chain: both amp levels at or below 0",
     Apart "steps with a chain whose sides are apart",
-    Plain "steps with a plain path sounding",
+    Plain "steps in which an oscillator 1 sounds without FM or ring",
     FltStart "chain: filter restarts",
     FltChange "chain: filter record changes, no restart",
     Driven "chain: overdriven",

@@ -115,7 +115,7 @@ impl Without {
         }
         if !R7 {
             let (differ, turned) = (self.plain, self.turned);
-            println!("steps that differ by a plain path: {differ}, of {plain} with one sounding, of which the port answers {turned} as the Rust once the wave switches are turned");
+            println!("steps that differ by an oscillator 1 without FM or ring: {differ}, of {plain} in which one sounds, of which the port answers {turned} as the Rust with the wave switches turned");
         }
         let never = |steps: u64, differ: u64| generated && steps > 0 && differ == 0;
         !R3 && self.phases != ones || !R5 && never(apart, self.mixes) || !R7 && never(plain, self.plain)

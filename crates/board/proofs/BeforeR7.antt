@@ -1,14 +1,14 @@
 -- A step beside the one before R-7: where no dual voice sounds without FM or ring in it, it answers as that one. Assumes nothing.
 use Prim.Native.Nat.{ℕ, zero, suc}
-use mathlib.Core.Path.{◌≡◌, refl, sym, ap, subst, ◌∙◌}
-use mathlib.Core.Bool.{Bool, true, false, ◌&&◌, cond}
+use mathlib.Core.Path.{◌≡◌, refl, sym}
+use mathlib.Core.Bool.{Bool, true, false, cond}
 use mathlib.Core.List.{List, [], ◌∷◌}
 use lib.ListN.{get_or, length}
 use lib.Dec.{T, ltb, eqb}
 use lib.IntN.{ℤ, pos, negsuc}
-use lib.Ieee.{Float, nan}
+use lib.Ieee.{nan}
 use lib.Ieee.Fits.{and_l, and_r}
-use Rattle.std.specs.Prelude.{Option, Some, None}
+use Rattle.std.specs.Prelude.{Option, Some}
 use Rattle.std.specs.Int.Signed.{le_z}
 use Rattle.frame.specs.Offsets.{FRAME_BYTES}
 use Rattle.frame.specs.Frame.{Bytes}
@@ -22,8 +22,8 @@ use Rattle.bus.proofs.Fed.{Words, fed_alike, voices_fed}
 use Rattle.board.specs.declared.Analog.{Analog}
 use Rattle.board.specs.declared.Inputs.{Inputs}
 use Rattle.board.specs.declared.refusals.Refusal.{Refusal}
-use Rattle.board.specs.declared.refusals.Refusal.TheVariants.{ShortFrame, ShortParameters, DacCount, DacRange, InputRange}
-use Rattle.board.specs.Board.{in_range, all_in_range, inputs_ok, taken_of, stepped_of, refusal_of, accepted, answered_if, answer_of}
+use Rattle.board.specs.declared.refusals.Refusal.TheVariants.{ShortFrame, ShortParameters, DacCount, DacRange}
+use Rattle.board.specs.Board.{in_range, all_in_range, taken_of, stepped_of, refusal_of, accepted, answered_if, answer_of}
 use Rattle.board.specs.BeforeR7.{stepped_before, answered_before, answer_before, NonePlain}
 
 -- ---- the DAC words of an accepted step
@@ -42,16 +42,19 @@ words dac t = record {
 
 pub accepted_words : (f : List ℕ) (dac : List ℤ) (fx : List ℕ) (x : Inputs) → T (accepted (refusal_of f dac fx x)) → Words dac
 unfolding refusal_of
-accepted_words f dac fx x t = words dac (by (ltb (length f) FRAME_BYTES) (ltb (length fx) 24) (eqb (length dac) 16) (all_in_range dac) (inputs_ok x) t)
+accepted_words f dac fx x t = words dac (by (ltb (length f) FRAME_BYTES) (ltb (length fx) 24) (eqb (length dac) 16) (all_in_range dac) _ t)
   where
-    by : (a b c r i : Bool) → T (accepted (cond a (Some ShortFrame) (cond b (Some ShortParameters) (cond c (cond r (cond i None (Some InputRange)) (Some DacRange)) (Some DacCount))))) → T r
-    by true b c r i t = absurd t
-    by false true c r i t = absurd t
-    by false false false r i t = absurd t
-    by false false true true i t = tt
-    by false false true false i t = absurd t
+    by : (a b c r : Bool) (o : Option Refusal) → T (accepted (cond a (Some ShortFrame) (cond b (Some ShortParameters) (cond c (cond r o (Some DacRange)) (Some DacCount))))) → T r
+    by true b c r o t = absurd t
+    by false true c r o t = absurd t
+    by false false false r o t = absurd t
+    by false false true true o t = tt
+    by false false true false o t = absurd t
 
 -- ---- the step
+rewrapped : (s e : Sources) → Beside s e → e ≡ record { duals = s.duals; hat = s.hat; toms = s.toms; cym = s.cym; w = s.w; src = e.src }
+rewrapped s e h = rw (sym h.duals, sym h.hat, sym h.toms, sym h.cym, sym h.w) refl
+
 module _ (b : Analog) (f : List ℕ) (B : Bytes f) (dac : List ℤ) (fx : List ℕ) (x : Inputs) (h : SourcesIn (taken_of b)) where
   pub stepped_as_before : Words dac → NonePlain f (stepped_of b f dac fx x).board → stepped_before b f dac fx x ≡ stepped_of b f dac fx x
   unfolding stepped_of stepped_before input_of
@@ -61,7 +64,7 @@ module _ (b : Analog) (f : List ℕ) (B : Bytes f) (dac : List ℤ) (fx : List �
       let i = sound_beside f B dac (taken_of b) h q in
       let fed : voices_of f dac e.src b.chains ≡ voices_of f dac s.src b.chains =
       voices_fed f dac s.src e.src b.chains (λ v. sym (fed_alike dac v (get_or s.src v nan) (get_or e.src v nan) w (all_at s.src e.src v i.src))) in
-      rw (fed, i.duals, i.hat, i.toms, i.cym, i.w) refl
+      rw (rewrapped s e i, fed) refl
 
   pub answer_as_before : (T (accepted (refusal_of f dac fx x)) → NonePlain f (stepped_of b f dac fx x).board) → answer_before b f dac fx x ≡ answer_of b f dac fx x
   unfolding answer_before answer_of answered_before answered_if

@@ -1,4 +1,4 @@
--- A step beside the one before R-7: where no dual voice sounds without FM or ring in it, it answers as that one. Assumes nothing.
+-- A step beside the one before R-7: where no oscillator 1 sounds without FM or ring in it, it answers as that one. Assumes nothing.
 use Prim.Native.Nat.{ℕ, zero, suc}
 use mathlib.Core.Path.{◌≡◌, refl, sym}
 use mathlib.Core.Bool.{Bool, true, false, cond}
@@ -56,8 +56,8 @@ rewrapped : (s e : Sources) → Beside s e → e ≡ record { duals = s.duals; h
 rewrapped s e h = rw (sym h.duals, sym h.hat, sym h.toms, sym h.cym, sym h.w) refl
 
 module _ (b : Analog) (f : List ℕ) (B : Bytes f) (dac : List ℤ) (fx : List ℕ) (x : Inputs) (h : SourcesIn (taken_of b)) where
-  pub stepped_as_before : Words dac → NonePlain f (stepped_of b f dac fx x).board → stepped_before b f dac fx x ≡ stepped_of b f dac fx x
-  unfolding stepped_of stepped_before input_of
+  pub stepped_as_before : Words dac → NonePlain f b → stepped_before b f dac fx x ≡ stepped_of b f dac fx x
+  unfolding stepped_of stepped_before input_of taken_of
   stepped_as_before w q =
       let s = sound_of f dac (taken_of b) in
       let e = sound_before f dac (taken_of b) in
@@ -66,7 +66,7 @@ module _ (b : Analog) (f : List ℕ) (B : Bytes f) (dac : List ℤ) (fx : List �
       voices_fed f dac s.src e.src b.chains (λ v. sym (fed_alike dac v (get_or s.src v nan) (get_or e.src v nan) w (all_at s.src e.src v i.src))) in
       rw (rewrapped s e i, fed) refl
 
-  pub answer_as_before : (T (accepted (refusal_of f dac fx x)) → NonePlain f (stepped_of b f dac fx x).board) → answer_before b f dac fx x ≡ answer_of b f dac fx x
+  pub answer_as_before : (T (accepted (refusal_of f dac fx x)) → NonePlain f b) → answer_before b f dac fx x ≡ answer_of b f dac fx x
   unfolding answer_before answer_of answered_before answered_if
   answer_as_before q = by (accepted (refusal_of f dac fx x)) (refusal_of f dac fx x) (λ t. stepped_as_before (accepted_words f dac fx x t) (q t))
     where

@@ -31,6 +31,6 @@ answered_before false o b f dac fx x = refused_of b o
 unfoldable pub answer_before : Analog → List ℕ → List ℤ → List ℕ → Inputs → Answer
 answer_before b f dac fx x = let o = refusal_of f dac fx x in answered_before (accepted o) o b f dac fx x
 
--- no dual voice sounds without FM or ring in a step with this frame that leads to this board
+-- in a step with this frame no oscillator 1 of this board sounds without FM or ring
 abbrev pub NonePlain : List ℕ → Analog → Type 0
-NonePlain f b = (d : ℕ) → d < 3 → plain_sounds f d (get_or b.duals d no_dual).amp.level ≡ false
+NonePlain f b = (d : ℕ) → d < 3 → plain_sounds f d (get_or b.duals d no_dual) ≡ false

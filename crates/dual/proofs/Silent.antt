@@ -147,7 +147,7 @@ module _ (f : List ℕ) (B : Bytes f) (d : ℕ) (e : DualOsc) (w : Wobble) (h : 
   unfolding settings_of
   amp_level = dual_level e.last_a i.ra e.amp (record_bytes f B d AMP_REC) h.amp
 
-  pub sample_alike : plain_sounds f d (sample_of f d e w).dual.amp.level ≡ false → Alike (sample_of f d e w).y (sample_before f d e w).y
+  pub sample_alike : plain_sounds f d e ≡ false → Alike (sample_of f d e w).y (sample_before f d e w).y
   unfolding plain_sounds sample_of sample_before sample_by
   sample_alike q = by (i.fm || i.ring) (eqb i.level1 0) (le level k_m127p5) refl refl refl q
     where

@@ -4,6 +4,7 @@ use Rattle.std.specs.Prelude.{ℕ, ◌≡◌, Bool, not, ◌&&◌, ◌||◌, con
 use Rattle.std.specs.Float.Ieee.{le}
 use Rattle.float.specs.Consts.{k1, k2, FS, k0p3, k0p7, k_m127p5, TAU}
 use Rattle.float.specs.Ops.{◌⊕◌, ◌⊖◌, ◌⊗◌}
+use Rattle.envelope.specs.Moves.{dual_of}
 use Rattle.sine.specs.Sine.{sin_of}
 use Rattle.vco.specs.declared.Pair.{Pair}
 use Rattle.vco.specs.declared.PairOut.{PairOut}
@@ -36,9 +37,9 @@ pub record OnlyPlainChanged (f : List ℕ) (d : ℕ) (e : DualOsc) (w : Wobble) 
   pub dual : r.dual ≡ (sample_before f d e w).dual
   pub draws : r.w ≡ (sample_before f d e w).w
 
--- oscillator 1 of voice d sounds without FM or ring: its level word is not 0, and the amp's level, after the tick, is above -127.5
-unfoldable pub plain_sounds : List ℕ → ℕ → Float → Bool
-plain_sounds f d level = let i = settings_of f d in not (i.fm || i.ring) && not (eqb i.level1 0) && not (le level k_m127p5)
+-- oscillator 1 of voice d, which stands as e, sounds without FM or ring in a sample of this frame: its level word is not 0, and the amp's level, after the tick, is above -127.5
+unfoldable pub plain_sounds : List ℕ → ℕ → DualOsc → Bool
+plain_sounds f d e = let i = settings_of f d in not (i.fm || i.ring) && not (eqb i.level1 0) && not (le (dual_of e.last_a i.ra e.amp).level k_m127p5)
 
 -- the settings with oscillator 1's wave switch turned, where neither is on
 abbrev pub turned : Settings → Settings

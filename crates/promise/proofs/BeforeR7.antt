@@ -17,14 +17,14 @@ use Rattle.slots.specs.Slots.{right_table}
 use Rattle.receive.specs.Receive.{receive_refusal_of, received_if, written_if, received_of, destination_of}
 use Rattle.promise.specs.Calls.{Given, answer, Call, step, receive, given_of, taken, next_of, reached_of}
 use Rattle.promise.specs.Promise.{EachAccepted}
-use Rattle.promise.specs.BeforeR7.{next_before, reached_before, AnswersAsBefore, UnchangedByR7, NonePlainSameAnswers}
+use Rattle.promise.specs.BeforeR7.{next_before, reached_before, AnswersAsBefore, NonePlainSameAnswers}
 use Rattle.promise.proofs.Kept.{Good, call_good}
 use Rattle.promise.proofs.Start.{fresh_good}
 use Rattle.promise.proofs.Run.{reached_good}
 
--- no dual voice sounds without FM or ring in an accepted step
+-- no oscillator 1 sounds without FM or ring in an accepted step
 abbrev Silent : Analog → Given → Type 0
-Silent b g = NonePlain g.frame (stepped_of b g.frame g.dac g.fx g.inputs).board
+Silent b g = NonePlain g.frame b
 
 -- what a call steps with is accepted as a step
 stepped_too : (k : Call) → T (taken k) → let g = given_of k in T (accepted (refusal_of g.frame g.dac g.fx g.inputs))

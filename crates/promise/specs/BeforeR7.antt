@@ -1,7 +1,7 @@
 -- Lists of calls by the step of before R-7, and what R-7 says of them: "with either on nothing changes". Definitions only.
 use Rattle.std.specs.Prelude.{ℕ, ◌≡◌, Bool, cond, List, [], ◌∷◌, length}
 use Rattle.board.specs.declared.Analog.{Analog}
-use Rattle.board.specs.Board.{fresh_of, stepped_of}
+use Rattle.board.specs.Board.{fresh_of}
 use Rattle.board.specs.BeforeR7.{stepped_before, answer_before, NonePlain}
 use Rattle.receive.specs.Receive.{receive_refusal_of, received_if, written_if, received_of, destination_of}
 use Rattle.promise.specs.Calls.{Given, answer, Call, step, receive, given_of, taken, reached_of}
@@ -28,7 +28,7 @@ pub record UnchangedByR7 (seed : ℕ) (ideal : Bool) (calls : List Call) : Type 
   pub answers : (p : Place calls) → let b = fresh_of seed ideal in AnswersAsBefore (reached_of b p.before) (reached_before b p.before) p.call
   pub board : let b = fresh_of seed ideal in reached_of b calls ≡ reached_before b calls
 
--- so it is for every list in none of whose accepted steps a dual voice sounds without FM or ring
+-- so it is for every list in none of whose accepted steps an oscillator 1 sounds without FM or ring
 abbrev pub NonePlainSameAnswers : ℕ → Bool → Type 0
 NonePlainSameAnswers seed ideal =
-    (calls : List Call) → EachAccepted (λ (b : Analog) (g : Given). NonePlain g.frame (stepped_of b g.frame g.dac g.fx g.inputs).board) (fresh_of seed ideal) calls → UnchangedByR7 seed ideal calls
+    (calls : List Call) → EachAccepted (λ (b : Analog) (g : Given). NonePlain g.frame b) (fresh_of seed ideal) calls → UnchangedByR7 seed ideal calls

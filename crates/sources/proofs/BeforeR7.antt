@@ -1,8 +1,8 @@
--- The sources of a step beside those of before R-7, where no dual voice sounds without FM or ring: they stand alike after it, and each sample is the same or both are zeros. Assumes nothing.
+-- The sources of a step beside those of before R-7, where no oscillator 1 sounds without FM or ring: they stand alike after it, and each sample is the same or both are zeros. Assumes nothing.
 use Prim.Native.Nat.{ℕ, zero, suc, ◌<◌, ◌≤◌}
 use native.Mathlib.Omega.{arith}
 use mathlib.Core.Path.{◌≡◌, refl, sym, ap, ap₂, subst, ◌∙◌}
-use mathlib.Core.Bool.{Bool, false}
+use mathlib.Core.Bool.{false}
 use mathlib.Core.List.{List, [], ◌∷◌}
 use lib.ListN.{get_or, set}
 use lib.IntN.{ℤ, pos}
@@ -31,7 +31,7 @@ use Rattle.hat.specs.Hat as Hat
 use Rattle.sources.specs.declared.Sources.{Sources}
 use Rattle.sources.specs.Sources.{no_dual, no_tom, dual_turn, duals_of, tom_turn, toms_of, metal_of, sound_of}
 use Rattle.sources.specs.BeforeR7.{dual_turn_before, duals_before, sound_before}
-use Rattle.sources.proofs.Kept.{SourcesIn, dual_later, dual_by}
+use Rattle.sources.proofs.Kept.{SourcesIn, dual_later}
 
 -- ---- lists of samples
 pub AllAlike : List Float → List Float → Type 0
@@ -71,10 +71,7 @@ pub record Beside (s e : Sources) : Type 0 where
   pub src : AllAlike s.src e.src
 
 module _ (f : List ℕ) (B : Bytes f) (dac : List ℤ) where
-  abbrev Quiet : ℕ → DualOsc → Wobble → Type 0
-  Quiet d e w = plain_sounds f d (Dual.sample_of f d e w).dual.amp.level ≡ false
-
-  dual_beside : (d : ℕ) (s e : Sources) → DualIn (get_or s.duals d no_dual) → Quiet d (get_or s.duals d no_dual) s.w → Beside s e → Beside (dual_turn f d s) (dual_turn_before f d e)
+  dual_beside : (d : ℕ) (s e : Sources) → DualIn (get_or s.duals d no_dual) → plain_sounds f d (get_or s.duals d no_dual) ≡ false → Beside s e → Beside (dual_turn f d s) (dual_turn_before f d e)
   unfolding dual_turn dual_turn_before
   dual_beside d s e i q h =
       let v = get_or s.duals d no_dual in
@@ -120,19 +117,13 @@ module _ (f : List ℕ) (B : Bytes f) (dac : List ℤ) where
             all_set _ _ HAT_VOICE _ _ (all_set s.src e.src CYM_VOICE _ _ h.src (same (sym (ap (λ (o : CymOut). o.y) c)))) (same (sym (ap (λ (o : HatOut). o.y) p)));
       }
 
-  module _ (s : Sources) (h : SourcesIn s) (q : (d : ℕ) → d < 3 → plain_sounds f d (get_or (sound_of f dac s).duals d no_dual).amp.level ≡ false) where
-    -- a level after the tick is the same whatever is drawn
-    quiet : (d : ℕ) → d < 3 → (w : Wobble) → Quiet d (get_or s.duals d no_dual) w
-    unfolding Dual.sample_of Dual.sample_by
-    quiet d l w = let by = dual_by f dac s h.long d l in subst (λ (e : DualOsc). plain_sounds f d e.amp.level ≡ false) by.is (q d l)
-
+  module _ (s : Sources) (h : SourcesIn s) (q : (d : ℕ) → d < 3 → plain_sounds f d (get_or s.duals d no_dual) ≡ false) where
     duals_beside : (n : ℕ) → n ≤ 3 → Beside (turns_of n (dual_turn f) s) (turns_of n (dual_turn_before f) s)
     unfolding turns_of
     duals_beside zero l = record { duals = refl; hat = refl; toms = refl; cym = refl; w = refl; src = all_same s.src }
     duals_beside (suc n) l =
-        let x = turns_of n (dual_turn f) s in
-        let later = dual_later f dac s n in
-        dual_beside n x _ (subst DualIn (sym later) (h.duals n (omega arith))) (subst (λ (e : DualOsc). Quiet n e x.w) (sym later) (quiet n (omega arith) x.w)) (duals_beside n (omega arith))
+        let later = sym (dual_later f dac s n) in
+        dual_beside n (turns_of n (dual_turn f) s) _ (subst DualIn later (h.duals n (omega arith))) (subst (λ (e : DualOsc). plain_sounds f n e ≡ false) later (q n (omega arith))) (duals_beside n (omega arith))
 
     pub sound_beside : Beside (sound_of f dac s) (sound_before f dac s)
     unfolding sound_of sound_before toms_of duals_of duals_before

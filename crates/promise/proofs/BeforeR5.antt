@@ -2,7 +2,7 @@
 use Prim.Native.Nat.{ℕ}
 use mathlib.Core.Path.{◌≡◌, refl, sym, ap, ◌∙◌, subst}
 use mathlib.Core.Bool.{Bool, true, false, cond}
-use mathlib.Core.List.{List, [], ◌∷◌, ◌++◌, append-nil}
+use mathlib.Core.List.{List, [], ◌∷◌, ◌++◌}
 use lib.Dec.{T}
 use lib.IntN.{ℤ}
 use Rattle.sources.specs.Sources.{sound_of}
@@ -16,6 +16,7 @@ use Rattle.board.proofs.BeforeR5.{fresh_as_before, fresh_alike, stepped_as_befor
 use Rattle.receive.proofs.BeforeR5.{received_as_before, destination_as_before}
 use Rattle.promise.specs.Calls.{Given, Call, step, receive, given_of, taken, next_of, reached_of}
 use Rattle.promise.specs.Promise.{EachAccepted}
+use Rattle.promise.proofs.Places.{each_at, each_split, each_whole}
 use Rattle.promise.specs.BeforeR5.{next_before, reached_before, AnswersAsBefore, SameRecordsSameAnswers}
 
 -- both records of each voice are the same in an accepted step
@@ -72,19 +73,14 @@ led : (b : Analog) → AmpsAlike b.chains → (before rest : List Call) → Each
 led b a [] rest h = first b a
 led b a (k ∷ ks) rest h = later b a k ks h.0 (led (next_of b k) (next_alike b k a h.0) ks rest h.1)
 
--- whose records are the same too, if it is accepted
-same_at : (b : Analog) (before : List Call) (k : Call) (rest : List Call) → EachAccepted Same b (before ++ (k ∷ rest)) → T (taken k) → SameRecords (given_of k).frame
-same_at b [] k rest h = h.0
-same_at b (j ∷ js) k rest h = same_at (next_of b j) js k rest h.1
-
 pub same_records_same_answers : (seed : ℕ) (ideal : Bool) → SameRecordsSameAnswers seed ideal
 same_records_same_answers seed ideal calls h = record {
   answers = λ p.
-      let i : EachAccepted Same b (p.before ++ (p.call ∷ p.rest)) = subst (λ (l : List Call). EachAccepted Same b l) (sym p.whole) h in
+      let i = each_split Same b calls p h in
       let r = led b a p.before (p.call ∷ p.rest) i in
       subst (λ (e : AnalogBefore). AnswersAsBefore (reached_of b p.before) e p.call) (r.board ∙ since p.before)
-      (call_as_before (reached_of b p.before) p.call r.alike (same_at b p.before p.call p.rest i));
-  board = (led b a calls [] (subst (λ (l : List Call). EachAccepted Same b l) (sym (append-nil calls)) h)).board ∙ since calls;
+      (call_as_before (reached_of b p.before) p.call r.alike (each_at Same b p.before p.call p.rest i));
+  board = (led b a calls [] (each_whole Same b calls h)).board ∙ since calls;
 }
   where
     b : Analog

@@ -2,22 +2,22 @@
 use Prim.Native.Nat.{ℕ, ◌<◌, ◌^◌}
 use mathlib.Core.Path.{◌≡◌, refl, sym, ap, ◌∙◌, subst}
 use mathlib.Core.Bool.{Bool, true, false, cond}
-use mathlib.Core.List.{List, [], ◌∷◌, ◌++◌, append-nil}
+use mathlib.Core.List.{List, [], ◌∷◌, ◌++◌}
 use lib.ListN.{length}
-use lib.Dec.{T, eqb}
+use lib.Dec.{T}
 use Rattle.std.specs.Prelude.{Option, Some, None}
 use Rattle.board.specs.declared.Analog.{Analog}
 use Rattle.board.specs.declared.Answer.{Answer}
 use Rattle.board.specs.declared.refusals.Refusal.{Refusal}
-use Rattle.board.specs.declared.refusals.Refusal.TheVariants.{SlotTable, DestinationCount}
 use Rattle.board.specs.Board.{fresh_of, refusal_of, accepted, stepped_of}
 use Rattle.board.specs.BeforeR7.{stepped_before, answer_before, NonePlain}
 use Rattle.board.proofs.BeforeR7.{accepted_words, stepped_as_before, answer_as_before}
-use Rattle.slots.specs.Slots.{right_table}
+use Rattle.receive.proofs.Told.{step_accepted}
 use Rattle.receive.specs.Receive.{receive_refusal_of, received_if, written_if, received_of, destination_of}
 use Rattle.promise.specs.Calls.{Given, answer, Call, step, receive, given_of, taken, next_of, reached_of}
 use Rattle.promise.specs.Promise.{EachAccepted}
 use Rattle.promise.specs.BeforeR7.{next_before, reached_before, AnswersAsBefore, NonePlainSameAnswers}
+use Rattle.promise.proofs.Places.{each_at, each_split, each_whole}
 use Rattle.promise.proofs.Kept.{Good, call_good}
 use Rattle.promise.proofs.Start.{fresh_good}
 use Rattle.promise.proofs.Run.{reached_good}
@@ -28,16 +28,8 @@ Silent b g = NonePlain g.frame b
 
 -- what a call steps with is accepted as a step
 stepped_too : (k : Call) → T (taken k) → let g = given_of k in T (accepted (refusal_of g.frame g.dac g.fx g.inputs))
-unfolding receive_refusal_of
 stepped_too (step g) t = t
-stepped_too (receive g slots dest) t = by (accepted o) refl t
-  where
-    o : Option Refusal
-    o = refusal_of g.frame g.dac g.fx g.inputs
-
-    by : (a : Bool) → accepted o ≡ a → T (accepted (cond a (cond (right_table slots) (cond (eqb (length dest) 12) None (Some DestinationCount)) (Some SlotTable)) o)) → T (accepted o)
-    by true e t = subst T (sym e) tt
-    by false e t = t
+stepped_too (receive g slots dest) t = step_accepted g.frame g.dac g.fx g.inputs slots dest t
 
 module _ (b : Analog) (k : Call) (g : Good b) (h : T (taken k) → Silent b (given_of k)) where
   abbrev i : Given
@@ -81,19 +73,13 @@ led b g [] rest h = refl
 led b g (k ∷ ks) rest h =
     led (next_of b k) (call_good b k g) ks rest h.1 ∙ ap (λ (e : Analog). reached_before e ks) (sym (next_as_before b k g h.0))
 
--- which is silent too, if it is accepted
-silent_at : (b : Analog) (before : List Call) (k : Call) (rest : List Call) → EachAccepted Silent b (before ++ (k ∷ rest)) → T (taken k) → Silent (reached_of b before) (given_of k)
-unfolding reached_of
-silent_at b [] k rest h = h.0
-silent_at b (j ∷ js) k rest h = silent_at (next_of b j) js k rest h.1
-
 pub none_plain_same_answers : (seed : ℕ) (ideal : Bool) → seed < 2 ^ 32 → NonePlainSameAnswers seed ideal
 none_plain_same_answers seed ideal fits calls h = record {
   answers = λ p.
-      let i : EachAccepted Silent b (p.before ++ (p.call ∷ p.rest)) = subst (λ (l : List Call). EachAccepted Silent b l) (sym p.whole) h in
+      let i = each_split Silent b calls p h in
       subst (λ (e : Analog). AnswersAsBefore (reached_of b p.before) e p.call) (led b g p.before (p.call ∷ p.rest) i)
-      (call_as_before (reached_of b p.before) p.call (reached_good b p.before g) (silent_at b p.before p.call p.rest i));
-  board = led b g calls [] (subst (λ (l : List Call). EachAccepted Silent b l) (sym (append-nil calls)) h);
+      (call_as_before (reached_of b p.before) p.call (reached_good b p.before g) (each_at Silent b p.before p.call p.rest i));
+  board = led b g calls [] (each_whole Silent b calls h);
 }
   where
     b : Analog

@@ -8,5 +8,6 @@ pub mod Words
 pub mod Counts
 pub mod Whole
 pub mod Corollaries
+pub mod Places
 pub mod BeforeR5
 pub mod BeforeR7

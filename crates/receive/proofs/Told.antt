@@ -1,23 +1,30 @@
 -- What is answered and written as the definitions have it is copied as they say, and a refusal leaves destination and board. Assumes nothing.
 use Prim.Native.Nat.{ℕ}
 use mathlib.Core.Path.{◌≡◌, refl, sym, ap, subst, ◌∙◌}
-use mathlib.Core.Bool.{cond, true≢false}
+use mathlib.Core.Bool.{Bool, true, false, cond}
 use mathlib.Core.List.{List}
 use lib.ListN.{length}
-use lib.Dec.{eqb}
+use lib.Dec.{T}
 use lib.IntN.{ℤ}
-use Rattle.std.specs.Prelude.{Option, Some, None, is_some}
+use Rattle.std.specs.Prelude.{Option, Some, None}
 use Rattle.board.specs.Board.{accepted, refusal_of, stepped_of, answered_if, answer_of}
 use Rattle.board.specs.declared.Analog.{Analog}
 use Rattle.board.specs.declared.Answer.{Answer}
 use Rattle.board.specs.declared.Inputs.{Inputs}
 use Rattle.board.specs.declared.refusals.Refusal.{Refusal}
-use Rattle.board.specs.declared.refusals.Refusal.TheVariants.{SlotTable, DestinationCount}
-use Rattle.board.proofs.Numbers.{not_accepted}
-use Rattle.slots.specs.Slots.{right_table, copy_of}
+use Rattle.slots.specs.Slots.{copy_of}
 use Rattle.slots.specs.Copied.{Copied}
 use Rattle.receive.specs.declared.Received.{Received}
 use Rattle.receive.specs.Receive.{receive_refusal_of, refused_of, received_if, written_if, received_of, destination_of, Receives}
+
+-- the step's own refusals come first
+pub step_accepted : (f : List ℕ) (dac : List ℤ) (fx : List ℕ) (x : Inputs) (slots : List ℕ) (dest : List ℤ) → T (accepted (receive_refusal_of f dac fx x slots (length dest))) → T (accepted (refusal_of f dac fx x))
+unfolding receive_refusal_of
+step_accepted f dac fx x slots dest t = by (accepted (refusal_of f dac fx x)) _ refl t
+  where
+    by : (a : Bool) (later : Option Refusal) → accepted (refusal_of f dac fx x) ≡ a → T (accepted (cond a later (refusal_of f dac fx x))) → T (accepted (refusal_of f dac fx x))
+    by true later e t = subst T (sym e) tt
+    by false later e t = t
 
 module _ (b : Analog) (f : List ℕ) (dac : List ℤ) (fx : List ℕ) (x : Inputs) (slots : List ℕ) (dest : List ℤ) where
   abbrev told : Option Refusal
@@ -25,15 +32,12 @@ module _ (b : Analog) (f : List ℕ) (dac : List ℤ) (fx : List ℕ) (x : Input
 
   -- one that is not refused is a step that is not refused
   pub step_taken : None ≡ told → answer_of b f dac fx x ≡ stepped_of b f dac fx x
-  unfolding receive_refusal_of answer_of answered_if
-  step_taken = by (refusal_of f dac fx x)
+  unfolding answer_of answered_if
+  step_taken e = by (accepted (refusal_of f dac fx x)) (step_accepted f dac fx x slots dest (subst (λ (o : Option Refusal). T (accepted o)) e tt))
     where
-      later : Option Refusal
-      later = cond (right_table slots) (cond (eqb (length dest) 12) None (Some DestinationCount)) (Some SlotTable)
-
-      by : (o : Option Refusal) → None ≡ cond (accepted o) later o → answered_if (accepted o) o b f dac fx x ≡ stepped_of b f dac fx x
-      by None h = refl
-      by (Some r) h = absurd (true≢false (sym (ap is_some (rw (not_accepted r) at h))))
+      by : (t : Bool) → T t → answered_if t (refusal_of f dac fx x) b f dac fx x ≡ stepped_of b f dac fx x
+      by true t = refl
+      by false t = absurd t
 
   -- the step's answer and its words, copied
   pub accepted_receives : (a : Answer) (after : List ℤ) → None ≡ told → a ≡ stepped_of b f dac fx x → after ≡ copy_of slots a.rx → Copied slots a.rx after → Receives b f dac fx x slots dest (record { refusal = None; mix = a.mix; board = a.board }) after

@@ -46,21 +46,13 @@ module _ {A : Type 0} (g : ℕ → A → A) (z : A) (l : List A) where
           let e : v ≡ n = omega arith in
           rw e (get_or-set_same (each_of n g z l) n c z (rw (each_length n) k) ∙ ap (g n) (untouched n n (omega arith)))
 
--- an element put into a list keeps what holds of each
-pub set_keeps : {A : Type 0} (P : A → Type 0) (z : A) (l : List A) (k : ℕ) (x : A) → ((i : ℕ) → i < length l → P (get_or l i z)) → P x → (i : ℕ) → i < length l → P (get_or (set l k x) i z)
-set_keeps P z l k x h p i b = by (ℕ_discrete k i)
-  where
-    by : Dec (k ≡ i) → P (get_or (set l k x) i z)
-    by (yes e) = subst P (sym (subst (λ (j : ℕ). get_or (set l k x) j z ≡ x) e (get_or-set_same l k x z (rw e b)))) p
-    by (no n) = subst P (sym (get_or-set_other l k i x z (λ e. n (sym e)))) (h i b)
-
--- and of what is read past the end
-pub set_keeps_read : {A : Type 0} (P : A → Type 0) (z : A) (l : List A) (k : ℕ) (x : A) → ((i : ℕ) → P (get_or l i z)) → P x → (i : ℕ) → P (get_or (set l k x) i z)
-set_keeps_read P z [] k x h p i = h i
-set_keeps_read P z (y ∷ l) zero x h p zero = p
-set_keeps_read P z (y ∷ l) zero x h p (suc i) = h (suc i)
-set_keeps_read P z (y ∷ l) (suc k) x h p zero = h 0
-set_keeps_read P z (y ∷ l) (suc k) x h p (suc i) = set_keeps_read P z l k x (λ j. h (suc j)) p i
+-- an element put into a list keeps what holds of the one that is read, past the end too
+pub set_keeps : {A : Type 0} (P : A → Type 0) (z : A) (l : List A) (k : ℕ) (x : A) (i : ℕ) → P (get_or l i z) → P x → P (get_or (set l k x) i z)
+set_keeps P z [] k x i h p = h
+set_keeps P z (y ∷ l) zero x zero h p = p
+set_keeps P z (y ∷ l) zero x (suc i) h p = h
+set_keeps P z (y ∷ l) (suc k) x zero h p = h
+set_keeps P z (y ∷ l) (suc k) x (suc i) h p = set_keeps P z l k x i h p
 
 -- turn n puts in the element of its number, and R holds between the old one and the new
 pub record Turn {S A : Type 0} (list : S → List A) (z : A) (R : ℕ → A → A → Type 0) (n : ℕ) (s t : S) : Type 0 where

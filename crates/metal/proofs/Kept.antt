@@ -36,7 +36,7 @@ pub record Six (P : Float → Type 0) (xs : List Float) : Type 0 where
 pub six_set : {P : Float → Type 0} (xs : List Float) (k : ℕ) (x : Float) → Six P xs → P x → Six P (set xs k x)
 six_set {P} xs k x h p = record {
   long = rw (length-set xs k x) h.long;
-  each = λ i l. set_keeps P nan xs k x (λ j m. h.each j (subst (λ (n : ℕ). j < n) h.long m)) p i (rw h.long l);
+  each = λ i l. set_keeps P nan xs k x i (h.each i l) p;
 }
 
 -- ---- draws

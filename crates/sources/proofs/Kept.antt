@@ -97,7 +97,7 @@ module _ (f : List ℕ) (B : Bytes f) (dac : List ℤ) where
       let o = dual_in f B d (get_or s.duals d no_dual) s.w (h.duals d l) h.w in
       record {
         long = length-set s.duals d _ ∙ h.long;
-        duals = λ i m. set_keeps DualIn no_dual s.duals d _ (λ j n. h.duals j (subst (λ (k : ℕ). j < k) h.long n)) o.0 i (rw h.long m);
+        duals = λ i m. set_keeps DualIn no_dual s.duals d _ i (h.duals i m) o.0;
         hat = h.hat;
         cym = h.cym;
         w = o.1;

@@ -8,3 +8,4 @@ pub mod Zeros
 pub mod Remainder
 pub mod Never
 pub mod Numbers
+pub mod Bits

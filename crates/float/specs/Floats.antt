@@ -1,7 +1,7 @@
 -- Rust's functions on f32, for every value. Definitions only.
-use Rattle.std.specs.Prelude.{false, cond, ℤ, pos, Float}
+use Rattle.std.specs.Prelude.{Bool, false, cond, eqb, ℤ, pos, Float}
 use Rattle.std.specs.Float.{binary32, nan, inf, fin}
-use Rattle.std.specs.Float.Ieee.{neg, add, mul, rem, lt, ne, to_signed}
+use Rattle.std.specs.Float.Ieee.{neg, add, mul, rem, lt, ne, to_signed, to_bits}
 use Rattle.float.specs.Consts.{k0, k1, k8388607}
 
 -- the value without its sign
@@ -27,6 +27,10 @@ max_of a b = cond (lt a b) b (cond (ne a a) b a)
 -- x where it lies from lo to hi or is not a number, and else the end that it passed
 unfoldable pub clamp_of : Float → Float → Float → Float
 clamp_of x lo hi = cond (lt x lo) lo (cond (lt hi x) hi x)
+
+-- whether two values have the same bits: +0 and -0 do not. A value that is no number is one value here, with one pattern of bits, and so has its own
+unfoldable pub same_bits : Float → Float → Bool
+same_bits a b = eqb (to_bits binary32 a) (to_bits binary32 b)
 
 -- what follows the point, with x's sign, but +0 of every whole number
 unfoldable pub fract_of : Float → Float

@@ -6,7 +6,7 @@ ghost use Rattle.std.specs.Float.{binary32};
 ghost use Rattle.std.specs.Float.Ieee.{rem, lt, of_int, to_signed};
 ghost use Rattle.std.specs.Float.Ieee.Scale.{finite};
 ghost use Rattle.float.specs.Consts.{k0, k1};
-ghost use Rattle.float.specs.Floats.{abs_of, signum_of, min_of, max_of, clamp_of, fract_of, rem_euclid_of, to24_of};
+ghost use Rattle.float.specs.Floats.{abs_of, signum_of, min_of, max_of, clamp_of, same_bits, fract_of, rem_euclid_of, to24_of};
 
 // The sample rate.
 pub const FS: f32 = 48000.0;
@@ -83,6 +83,14 @@ pub fn clamp(x: f32, lo: f32, hi: f32) -> f32
     } else {
         x
     }
+}
+
+// `a.to_bits() == b.to_bits()`, where two values that are no numbers have the same: std's `to_bits` promises nothing of them.
+#[tactic(auto, unfolding(crate::specs::Floats::same_bits))]
+pub fn same_bits(a: f32, b: f32) -> bool
+    ensures { result ≡ same_bits a b }
+{
+    std::num::f32_to_bits_with_nan(a) == std::num::f32_to_bits_with_nan(b)
 }
 
 // By std's `is_finite`, or a NaN found by `is_nan` above, the proof did not close: the definitions compare.

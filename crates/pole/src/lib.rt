@@ -2,14 +2,27 @@
 #![tactic(auto)]
 
 ghost use Rattle.std.specs.Prelude.{◌≡◌};
-ghost use Rattle.pole.specs.Pole.{one_pole_of, kept_of};
+ghost use Rattle.pole.specs.Pole.{coefficient_of, moved_of, one_pole_of, kept_of};
 
-// The low-pass after a sample x.
+// The low-pass's coefficient, of its cutoff.
+pub fn coefficient(hz: f32) -> f32
+    ensures { result ≡ coefficient_of hz }
+{
+    1.0 - power::exp(-float::TAU * hz / float::FS)
+}
+
+// The low-pass after a sample x, by its coefficient.
+pub fn moved(was: f32, x: f32, a: f32) -> f32
+    ensures { result ≡ moved_of was x a }
+{
+    was + a * (x - was)
+}
+
+// The same, by its cutoff.
 pub fn one_pole(was: f32, x: f32, hz: f32) -> f32
     ensures { result ≡ one_pole_of was x hz }
 {
-    let a = 1.0 - power::exp(-float::TAU * hz / float::FS);
-    was + a * (x - was)
+    moved(was, x, coefficient(hz))
 }
 
 // What a sample keeps, by a time in seconds.

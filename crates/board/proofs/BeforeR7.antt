@@ -23,8 +23,9 @@ use Rattle.board.specs.declared.Analog.{Analog}
 use Rattle.board.specs.declared.Inputs.{Inputs}
 use Rattle.board.specs.declared.refusals.Refusal.{Refusal}
 use Rattle.board.specs.declared.refusals.Refusal.TheVariants.{ShortFrame, ShortParameters, DacCount, DacRange}
-use Rattle.board.specs.Board.{in_range, all_in_range, taken_of, stepped_of, refusal_of, accepted, answered_if, answer_of}
-use Rattle.board.specs.BeforeR7.{stepped_before, answered_before, answer_before, NonePlain}
+use Rattle.board.specs.Board.{in_range, all_in_range, taken_of, stepped_of, refusal_of, accepted}
+use Rattle.board.specs.Before.{earlier_answer}
+use Rattle.board.specs.BeforeR7.{stepped_before, NonePlain}
 
 -- ---- the DAC words of an accepted step
 each_in_range : (dac : List ℤ) → T (all_in_range dac) → (v : ℕ) → T (in_range (get_or dac v (pos 0)))
@@ -56,7 +57,7 @@ rewrapped : (s e : Sources) → Beside s e → e ≡ record { duals = s.duals; h
 rewrapped s e h = rw (sym h.duals, sym h.hat, sym h.toms, sym h.cym, sym h.w) refl
 
 module _ (b : Analog) (f : List ℕ) (B : Bytes f) (dac : List ℤ) (fx : List ℕ) (x : Inputs) (h : SourcesIn (taken_of b)) where
-  pub stepped_as_before : Words dac → NonePlain f b → stepped_before b f dac fx x ≡ stepped_of b f dac fx x
+  pub stepped_as_before : Words dac → NonePlain f b → stepped_before b f dac fx x ≡ earlier_answer (λ (c : Analog). c) (stepped_of b f dac fx x)
   unfolding stepped_of stepped_before input_of taken_of
   stepped_as_before w q =
       let s = sound_of f dac (taken_of b) in
@@ -65,11 +66,3 @@ module _ (b : Analog) (f : List ℕ) (B : Bytes f) (dac : List ℤ) (fx : List �
       let fed : voices_of f dac e.src b.chains ≡ voices_of f dac s.src b.chains =
       voices_fed f dac s.src e.src b.chains (λ v. sym (fed_alike dac v (get_or s.src v nan) (get_or e.src v nan) w (all_at s.src e.src v i.src))) in
       rw (rewrapped s e i, fed) refl
-
-  pub answer_as_before : (T (accepted (refusal_of f dac fx x)) → NonePlain f b) → answer_before b f dac fx x ≡ answer_of b f dac fx x
-  unfolding answer_before answer_of answered_before answered_if
-  answer_as_before q = by (accepted (refusal_of f dac fx x)) (refusal_of f dac fx x) (λ t. stepped_as_before (accepted_words f dac fx x t) (q t))
-    where
-      by : (t : Bool) (o : Option Refusal) → (T t → stepped_before b f dac fx x ≡ stepped_of b f dac fx x) → answered_before t o b f dac fx x ≡ answered_if t o b f dac fx x
-      by true o h = h tt
-      by false o h = refl

@@ -1,5 +1,5 @@
 -- Laws of `board`.
 pub mod Range
 pub mod Numbers
-pub mod BeforeR5
+pub mod Before
 pub mod BeforeR7

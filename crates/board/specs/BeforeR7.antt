@@ -1,17 +1,15 @@
--- The step as it was before R-7. `x_before` is `x_of` of specs/Board.antt as it stood, or `x_if`; what R-7 left alone is shared, and is today's. Definitions only.
-use Rattle.std.specs.Prelude.{ℕ, ◌≡◌, ◌<◌, Bool, true, false, List, get_or, ℤ, Option, None}
+-- The step as it was before R-7: `stepped_of` of specs/Board.antt as it stood; what R-7 left alone is shared, and is today's. Definitions only.
+use Rattle.std.specs.Prelude.{ℕ, ◌≡◌, ◌<◌, false, List, get_or, None}
 use Rattle.dual.specs.BeforeR7.{plain_sounds}
 use Rattle.sources.specs.Sources.{no_dual}
 use Rattle.sources.specs.BeforeR7.{sound_before}
 use Rattle.bus.specs.Bus.{voices_of, master_of}
 use Rattle.comp.specs.Comp.{process_of}
 use Rattle.board.specs.declared.Analog.{Analog}
-use Rattle.board.specs.declared.Inputs.{Inputs}
-use Rattle.board.specs.declared.Answer.{Answer}
-use Rattle.board.specs.declared.refusals.Refusal.{Refusal}
-use Rattle.board.specs.Board.{refusal_of, accepted, refused_of, words_of, taken_of}
+use Rattle.board.specs.Board.{words_of, taken_of}
+use Rattle.board.specs.Before.{StepOn}
 
-unfoldable pub stepped_before : Analog → List ℕ → List ℤ → List ℕ → Inputs → Answer
+unfoldable pub stepped_before : StepOn Analog
 stepped_before b f dac fx x =
     let s = sound_before f dac (taken_of b) in
     let v = voices_of f dac s.src b.chains in
@@ -23,13 +21,6 @@ stepped_before b f dac fx x =
       mix = o.mix;
       board = record { duals = s.duals; hat = s.hat; toms = s.toms; cym = s.cym; chains = v.chains; comp = o.comp; wobble = s.w };
     }
-
-unfoldable pub answered_before : Bool → Option Refusal → Analog → List ℕ → List ℤ → List ℕ → Inputs → Answer
-answered_before true o b f dac fx x = stepped_before b f dac fx x
-answered_before false o b f dac fx x = refused_of b o
-
-unfoldable pub answer_before : Analog → List ℕ → List ℤ → List ℕ → Inputs → Answer
-answer_before b f dac fx x = let o = refusal_of f dac fx x in answered_before (accepted o) o b f dac fx x
 
 -- in a step with this frame no oscillator 1 of this board sounds without FM or ring
 abbrev pub NonePlain : List ℕ → Analog → Type 0

@@ -1,4 +1,4 @@
--- The definitions that the contracts of `board` cite, and those of before R-5 and R-7.
+-- The definitions that the contracts of `board` cite, and those of before a request.
 pub mod Board
-pub mod BeforeR5
+pub mod Before
 pub mod BeforeR7

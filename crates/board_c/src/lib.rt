@@ -6,6 +6,7 @@ ghost use Rattle.board.specs.Board.{fresh_of, inputs_of};
 ghost use Rattle.promise.specs.Promise.{Promised};
 ghost use Rattle.promise.specs.BeforeR5.{SameRecordsSameAnswers};
 ghost use Rattle.promise.specs.BeforeR7.{NonePlainSameAnswers};
+ghost use Rattle.promise.specs.BeforeR8.{StoringChangesNothing};
 ghost use Rattle.board_c.specs.Calls.{Step, ReceiveStep};
 
 use board::{Analog, Inputs};
@@ -33,7 +34,7 @@ pub struct Received {
 // A fresh board.
 #[unsafe(no_mangle)]
 pub extern "C" fn rytm_fresh(seed: u32, ideal: bool) -> Analog
-    ensures { (result ≡ fresh_of seed ideal) × Promised result × SameRecordsSameAnswers seed ideal × NonePlainSameAnswers seed ideal }
+    ensures { (result ≡ fresh_of seed ideal) × Promised result × SameRecordsSameAnswers seed ideal × NonePlainSameAnswers seed ideal × StoringChangesNothing seed ideal }
 {
     promise::fresh(seed, ideal)
 }

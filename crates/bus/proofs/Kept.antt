@@ -12,7 +12,7 @@ use Rattle.float.specs.Consts.{k0p5}
 use Rattle.float.specs.Ops.{◌⊗◌}
 use Rattle.float.specs.Floats.{to24_of}
 use Rattle.float.proofs.Laws.{word_in}
-use Rattle.lists.proofs.Sweep.{turns_keep, set_keeps_read, Turn, turns_length, turns_at}
+use Rattle.lists.proofs.Sweep.{turns_keep, set_keeps, Turn, turns_length, turns_at}
 use Rattle.chain.specs.declared.Chain.{Chain}
 use Rattle.chain.specs.Chain.{no_chain, process_of}
 use Rattle.bus.specs.declared.Bus.{Bus}
@@ -46,7 +46,7 @@ module _ (f : List ℕ) (dac : List ℤ) (src : List Float) (chains : List Chain
 -- ---- the words
 -- a half sample put in as a word
 pub words_set : (l : List ℤ) (i : ℕ) (x : Float) → InWordRange l → InWordRange (set l i (to24_of (x ⊗ k0p5)))
-words_set l i x a = set_keeps_read (λ (w : ℤ). nat_abs w ≤ 8388607) (pos 0) l i (to24_of (x ⊗ k0p5)) a (word_in (x ⊗ k0p5) (mul-fits binary32 x k0p5))
+words_set l i x a k = set_keeps (λ (w : ℤ). nat_abs w ≤ 8388607) (pos 0) l i (to24_of (x ⊗ k0p5)) k (a k) (word_in (x ⊗ k0p5) (mul-fits binary32 x k0p5))
 
 pub words_zero : (n : ℕ) → InWordRange (replicate n (pos 0))
 words_zero zero k = lit≤ tt

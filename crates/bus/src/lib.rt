@@ -5,7 +5,9 @@ ghost use Rattle.std.specs.Prelude.{◌≡◌, ◌≤◌, ◌<◌};
 ghost use Rattle.frame.specs.Offsets.{VCA_R};
 ghost use Rattle.chain.specs.Chain.{process_of};
 ghost use Rattle.bus.specs.Bus.{dac_f, return_of, fed_of, contribution_of, added_of, EachSideAlone, voices_of, distort_of, master_of};
-ghost use Rattle.bus.specs.BeforeR5.{LeftAsBefore, voices_before, earlier_chains};
+ghost use Rattle.chain.specs.BeforeR5.{before, earlier_chain};
+ghost use Rattle.bus.specs.Before.{voices_on, earlier_chains};
+ghost use Rattle.bus.specs.BeforeR5.{LeftAsBefore};
 
 use chain::{Chain, ChainOut};
 use frame::{DacWords, Frame};
@@ -81,7 +83,7 @@ pub struct Bus {
 pub fn voices(mut chains: [Chain; 8], f: &Frame, dac: &DacWords, src: [f32; 8]) -> Bus
     ensures value { result ≡ voices_of f.now dac.now src chains }
     ensures alone { EachSideAlone f.now dac.now src chains result.mix }
-    ensures left { LeftAsBefore result (voices_before f.now dac.now src (earlier_chains chains)) }
+    ensures left { LeftAsBefore result (voices_on before f.now dac.now src (earlier_chains earlier_chain chains)) }
 {
     let mut rx: [i32; 12] = [0; 12];
     let mut mix = Mix { l: 0.0, r: 0.0 };

@@ -2,3 +2,4 @@
 pub mod Own
 pub mod Kept
 pub mod BeforeR5
+pub mod BeforeR8

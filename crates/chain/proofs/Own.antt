@@ -1,12 +1,16 @@
--- What one sample of a chain does to its envelopes and gives to its sides; and beside it a filtered sample that is finite, and a cutoff within its limits. Assumes nothing.
+-- What one sample of a chain does to its envelopes and to its stored coefficients, and gives to its sides; and beside it a filtered sample that is finite, and a cutoff within
+-- its limits. Assumes nothing.
 use Prim.Native.Nat.{ℕ}
-use mathlib.Core.Path.{refl}
-use mathlib.Core.Bool.{Bool, true, false, cond}
+use mathlib.Core.Path.{◌≡◌, refl}
+use mathlib.Core.Logic.{◌⊎◌, inl, inr}
+use mathlib.Core.Bool.{Bool, true, false, not, cond, ◌&&◌}
 use mathlib.Core.List.{List}
 use lib.Dec.{T}
 use lib.Ieee.{Float, nan, inf, fin, binary32, le, lt, eq, ne, fits, of_bits, mul, round}
-use lib.Ieee.Fits.{add-fits, sub-fits, mul-fits}
+use lib.Ieee.Fits.{and_i, add-fits, sub-fits, mul-fits}
 use lib.Ieee.Scale.{finite}
+use lib.Ieee.Bits.{is_true}
+use Rattle.std.proofs.lemmas.Bool.{cond-true, cond-false}
 use Rattle.line.proofs.Range.{In, in_of, finite_in}
 use Rattle.float.specs.Consts.{k10, k22000, k0p45, FS}
 use Rattle.float.specs.Ops.{◌⊗◌}
@@ -18,11 +22,22 @@ use Rattle.chain.specs.declared.Chain.{Chain}
 use Rattle.chain.specs.declared.Filtered.{Filtered}
 use Rattle.chain.specs.declared.Multimode.{Multimode}
 use Rattle.chain.specs.declared.Coefs.{Coefs}
-use Rattle.chain.specs.Chain.{settings_of, cutoff_of, limited_of, multimode_of, lp1_of, pick_of, finite_or, filter_of, process_of, EachItsOwn, Traced}
+use Rattle.chain.specs.Chain.{settings_of, cutoff_of, limited_of, stored_of, multimode_of, lp1_of, pick_of, finite_or, filter_of, process_of, EachItsOwn, Stored, Traced}
 
 pub each_its_own : (f : List ℕ) (v : ℕ) (x : Float) (c : Chain) → EachItsOwn f v x c (process_of f v x c)
 unfolding process_of settings_of
 each_its_own f v x c = record { amp = refl; amp_r = refl; flt = refl; left = refl; right = refl }
+
+-- one that is false makes both so
+either : (a b : Bool) → T (not a) ⊎ T (not b) → (a && b) ≡ false
+either true true (inl t) = absurd t
+either true true (inr t) = absurd t
+either true false t = refl
+either false b t = refl
+
+pub stored : (f : List ℕ) (v : ℕ) (x : Float) (c : Chain) → Stored f v x c (process_of f v x c)
+unfolding process_of settings_of stored_of
+stored f v x c = record { keeps = λ s t. cond-true _ _ _ (is_true _ (and_i _ _ s t)); renews = λ t. cond-false _ _ _ (either _ _ t); uses = refl }
 
 -- the replacement keeps what holds of a finite sample and of 0
 kept : (P : Float → Type 0) (b : Bool) (p q : Filtered) → (T b → P p.y) → P q.y → P (cond b p q).y
@@ -34,15 +49,15 @@ unfolding finite_or of_bits
 replaced s lp1 y = kept (λ (z : Float). T (finite z)) (finite y) _ _ (λ t. t) tt
 
 -- every output is a sum or a difference
-picked : (kind : FltType) (low band x : Float) (q : Coefs) (lp1 fc k res : Float) → T (fits binary32 (pick_of kind (multimode_of low band x q) (lp1_of lp1 x fc) x k res))
+picked : (kind : FltType) (low band x : Float) (q : Coefs) (lp1 a k res : Float) → T (fits binary32 (pick_of kind (multimode_of low band x q) (lp1_of lp1 x a) x k res))
 unfolding pick_of multimode_of lp1_of
-picked Lp2 low band x q lp1 fc k res = add-fits binary32 _ _
-picked Lp1 low band x q lp1 fc k res = add-fits binary32 _ _
-picked Bp low band x q lp1 fc k res = add-fits binary32 _ _
-picked Hp1 low band x q lp1 fc k res = sub-fits binary32 _ _
-picked Hp2 low band x q lp1 fc k res = sub-fits binary32 _ _
-picked Bs low band x q lp1 fc k res = add-fits binary32 _ _
-picked Pk low band x q lp1 fc k res = add-fits binary32 _ _
+picked Lp2 low band x q lp1 a k res = add-fits binary32 _ _
+picked Lp1 low band x q lp1 a k res = add-fits binary32 _ _
+picked Bp low band x q lp1 a k res = add-fits binary32 _ _
+picked Hp1 low band x q lp1 a k res = sub-fits binary32 _ _
+picked Hp2 low band x q lp1 a k res = sub-fits binary32 _ _
+picked Bs low band x q lp1 a k res = add-fits binary32 _ _
+picked Pk low band x q lp1 a k res = add-fits binary32 _ _
 
 replaced_fits : (s : Multimode) (lp1 y : Float) → T (fits binary32 y) → T (fits binary32 (finite_or s lp1 y).y)
 unfolding finite_or fits of_bits

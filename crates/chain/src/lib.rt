@@ -2,7 +2,7 @@
 #![tactic(auto)]
 
 ghost use Rattle.std.specs.Prelude.{◌≡◌, ◌<◌};
-ghost use Rattle.chain.specs.Chain.{EachItsOwn, Traced, chain_new, drive_of, cutoff_of, limited_of, res_of, coefs_of, multimode_of, lp1_of, pick_of, finite_or, settings_of, filter_of, process_of};
+ghost use Rattle.chain.specs.Chain.{EachItsOwn, Stored, Traced, chain_new, drive_of, cutoff_of, limited_of, res_of, coefs_of, stored_of, multimode_of, lp1_of, pick_of, finite_or, settings_of, filter_of, process_of};
 
 use envelope::SegEnv;
 use frame::{FltType, Frame};
@@ -20,6 +20,8 @@ pub struct Chain {
     pub lp1: f32,
     // The right side's amp.
     pub amp_r: SegEnv,
+    // What the filter goes by.
+    pub coefs: Coefs,
 }
 
 // A chain after its sample, and the sample, left and right; with it the filtered sample that the amps took, and the cutoff that the tangent took. Each state has such a struct of its own, whose fields say what they are; a generic one would
@@ -104,13 +106,20 @@ fn resonance(word: f32) -> f32
     float::clamp(word / (127.0 * 256.0), 0.0, 1.0)
 }
 
-// The filter's tangent, damping and quotients.
+// The filter's coefficients, and the cutoff and the resonance that they came from.
+#[repr(C)]
 #[derive(Clone, Copy)]
 pub struct Coefs {
+    pub fc: f32,
+    pub res: f32,
+    // The tangent, the damping and the quotients of the state-variable filter.
+    pub g: f32,
     pub k: f32,
     pub a1: f32,
     pub a2: f32,
     pub a3: f32,
+    // The one-pole's.
+    pub a: f32,
 }
 
 #[tactic(auto, unfolding(crate::specs::Chain::coefs_of))]
@@ -121,11 +130,26 @@ fn coefficients(fc: f32, res: f32) -> Coefs
     let k = 2.0 * (1.0 - 0.97 * res);
     let a1 = 1.0 / (1.0 + g * (g + k));
     Coefs {
+        fc,
+        res,
+        g,
         k,
         a1,
         a2: g * a1,
         a3: g * g * a1,
+        a: pole::coefficient(fc),
     }
+}
+
+// The coefficients as they were kept, unless the cutoff or the resonance differs in its bits.
+#[tactic(auto, unfolding(crate::specs::Chain::stored_of))]
+fn stored(was: Coefs, fc: f32, res: f32) -> Coefs
+    ensures { result ≡ stored_of was fc res }
+{
+    if float::same_bits(fc, was.fc) & float::same_bits(res, was.res) {
+        return was;
+    }
+    coefficients(fc, res)
 }
 
 // The integrators' next states, and the three outputs.
@@ -200,16 +224,14 @@ fn replace(s: Multimode, lp1: f32, y: f32) -> Filtered
     }
 }
 
-// The filter of a chain with cutoff fc, on the driven sample x.
+// The filter of a chain by these coefficients, on the driven sample x.
 #[tactic(auto, unfolding(crate::specs::Chain::filter_of, crate::specs::Chain::lp1_of))]
-fn run_filter(c: Chain, i: Settings, fc: f32, x: f32) -> Filtered
-    ensures { result ≡ filter_of c i fc x }
+fn run_filter(c: Chain, kind: FltType, q: Coefs, x: f32) -> Filtered
+    ensures { result ≡ filter_of c.low c.band c.lp1 kind q x }
 {
-    let res = resonance(i.res);
-    let q = coefficients(fc, res);
     let s = filter(c.low, c.band, x, q);
-    let lp1 = pole::one_pole(c.lp1, x, fc);
-    replace(s, lp1, pick(i.kind, s, lp1, x, q.k, res))
+    let lp1 = pole::moved(c.lp1, x, q.a);
+    replace(s, lp1, pick(kind, s, lp1, x, q.k, q.res))
 }
 
 impl Chain {
@@ -234,6 +256,7 @@ impl Chain {
             band: 0.0,
             lp1: 0.0,
             amp_r: e,
+            coefs: coefficients(440.0, 0.0),
         }
     }
 
@@ -243,12 +266,14 @@ impl Chain {
         requires { v < 8 }
         ensures value { result ≡ process_of f.now v x self }
         ensures own { EachItsOwn f.now v x self result }
+        ensures stored { Stored f.now v x self result }
         ensures traced { Traced result }
     {
         let i = Settings::read(f, v);
         let flt = self.flt.filter(i.rf);
         let fc = cutoff(i.frq, i.depth, flt.level);
-        let s = run_filter(self, i, fc, overdrive(i.ovr, x));
+        let coefs = stored(self.coefs, fc, resonance(i.res));
+        let s = run_filter(self, i.kind, coefs, overdrive(i.ovr, x));
         let amp = self.amp.amp(i.ra);
         let amp_r = self.amp_r.amp(i.ra_r);
         ChainOut {
@@ -259,6 +284,7 @@ impl Chain {
                 band: s.band,
                 lp1: s.lp1,
                 amp_r,
+                coefs,
             },
             y: Mix {
                 l: s.y * envelope::gain(amp.level, 0.0),

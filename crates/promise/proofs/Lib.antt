@@ -9,5 +9,7 @@ pub mod Counts
 pub mod Whole
 pub mod Corollaries
 pub mod Places
+pub mod Before
 pub mod BeforeR5
 pub mod BeforeR7
+pub mod BeforeR8

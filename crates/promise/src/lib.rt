@@ -8,13 +8,14 @@ ghost use Rattle.promise.specs.Calls.{StepAnswer, ReceiveAnswer};
 ghost use Rattle.promise.specs.Promise.{Promised};
 ghost use Rattle.promise.specs.BeforeR5.{SameRecordsSameAnswers};
 ghost use Rattle.promise.specs.BeforeR7.{NonePlainSameAnswers};
+ghost use Rattle.promise.specs.BeforeR8.{StoringChangesNothing};
 
 use board::{Analog, Answer, Inputs};
 use receive::Received;
 
 // A fresh board.
 pub fn fresh(seed: u32, ideal: bool) -> Analog
-    ensures { (result ≡ fresh_of seed ideal) × Promised result × SameRecordsSameAnswers seed ideal × NonePlainSameAnswers seed ideal }
+    ensures { (result ≡ fresh_of seed ideal) × Promised result × SameRecordsSameAnswers seed ideal × NonePlainSameAnswers seed ideal × StoringChangesNothing seed ideal }
 {
     board::fresh(seed, ideal)
 }

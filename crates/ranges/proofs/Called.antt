@@ -65,9 +65,8 @@ pub record Called : Type 0 where
       ≡ (let g = tan_of (tangent fc) in
       let k = k2 ⊗ (k1 ⊖ k0p97 ⊗ res) in
       let a1 = k1 ⊘ (k1 ⊕ g ⊗ (g ⊕ k)) in
-      let c : Coefs = record { k = k; a1 = a1; a2 = g ⊗ a1; a3 = g ⊗ g ⊗ a1 } in
+      let c : Coefs = record { fc = fc; res = res; g = g; k = k; a1 = a1; a2 = g ⊗ a1; a3 = g ⊗ g ⊗ a1; a = k1 ⊖ exp_of (pole fc) } in
       c)
-  pub one_pole : (lp1 x fc : Float) → Chain.lp1_of lp1 x fc ≡ lp1 ⊕ (k1 ⊖ exp_of (pole fc)) ⊗ (x ⊖ lp1)
   pub chain_gain : (x : Float) → Chain.gain_of x ≡ cond (le x k0) k0 (exp2_of (gain x))
   -- the compressor
   pub side_pole : (hz : Float) → Comp.pole_of hz ≡ k1 ⊖ exp_of (pole hz)
@@ -76,7 +75,7 @@ pub record Called : Type 0 where
   pub db : (x : Float) → Comp.db_of x ≡ pow10_of (decibels x)
 
 pub called : Called
-unfolding detune_of drift_of wave_at Dual.plain_of Dual.gain_of Hat.colour_of Hat.sound_of Cym.sound_of Cym.coefficient_of Tom.decay_of Tom.ring_of Chain.settings_of Chain.cutoff_of Chain.coefs_of Chain.lp1_of Chain.gain_of Comp.pole_of Comp.coef_of Comp.level_of Comp.db_of
+unfolding detune_of drift_of wave_at Dual.plain_of Dual.gain_of Hat.colour_of Hat.sound_of Cym.sound_of Cym.coefficient_of Tom.decay_of Tom.ring_of Chain.settings_of Chain.cutoff_of Chain.coefs_of Chain.gain_of Comp.pole_of Comp.coef_of Comp.level_of Comp.db_of
 called = record {
   detuned = λ w. refl;
   drifted = λ d w e. rw e;
@@ -95,7 +94,6 @@ called = record {
   depth = λ f v. refl;
   cut = λ frq depth level. refl;
   filtered = λ fc res. refl;
-  one_pole = λ lp1 x fc. refl;
   chain_gain = λ x. refl;
   side_pole = λ hz. refl;
   smoothed = λ t. refl;

@@ -81,7 +81,7 @@ cutoff frq depth level = let cv = frq ⊕ depth ⊗ (max_of level k0 ⊘ k127) i
 abbrev pub tangent : Float → Float
 tangent fc = PI ⊗ limited_of fc ⊘ FS
 
--- `lp1_of`, and `pole_of` of `comp`, to exp
+-- `coefs_of`, and `pole_of` of `comp`, to exp
 abbrev pub pole : Float → Float
 pole hz = neg TAU ⊗ hz ⊘ FS
 

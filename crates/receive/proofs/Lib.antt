@@ -1,3 +1,2 @@
 -- Laws of `receive`.
 pub mod Told
-pub mod BeforeR5

@@ -1,3 +1,3 @@
--- The definitions that the contracts of `receive` cite, and those of before R-5.
+-- The definitions that the contracts of `receive` cite, and those of before a request.
 pub mod Receive
-pub mod BeforeR5
+pub mod Before

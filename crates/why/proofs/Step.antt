@@ -1,6 +1,6 @@
 -- A share's figures are the step's: its levels those of the next board, and each side of the voices' mix the sum of the contributions. Assumes nothing.
 use Prim.Native.Nat.{ℕ, ◌+◌, ◌*◌, ◌<◌}
-use mathlib.Core.Path.{◌≡◌, refl, sym, ap, ◌∙◌}
+use mathlib.Core.Path.{◌≡◌, refl, sym, ap, ◌∙◌, subst}
 use mathlib.Core.Bool.{Bool, true, false, cond}
 use mathlib.Core.List.{List}
 use lib.ListN.{get_or, length}
@@ -17,8 +17,9 @@ use Rattle.frame.specs.Frame.{signed_f, routed_off}
 use Rattle.lists.proofs.Sweep.{turns_match}
 use Rattle.sources.specs.Sources.{sound_of}
 use Rattle.chain.specs.declared.Chain.{Chain}
-use Rattle.chain.specs.Chain.{no_chain, settings_of, cutoff_of, limited_of, process_of}
+use Rattle.chain.specs.Chain.{no_chain, settings_of, cutoff_of, limited_of, process_of, pair_fc}
 use Rattle.chain.proofs.Own.{traced}
+use Rattle.chain.proofs.BeforeR8.{FromPair, fc_after}
 use Rattle.bus.specs.Bus.{input_of, contribution_of, added_of, sample_of, voices_of, sum_of}
 use Rattle.bus.proofs.Kept.{own_chain}
 use Rattle.bus.proofs.Alone.{pushed, each_side_alone}
@@ -60,6 +61,13 @@ module _ (b : Analog) (f : List ℕ) (dac : List ℤ) where
     tangent : (voice_of b f dac v).cutoff ≡ limited_of (cutoff_of (signed_f f (FRQ + 2 * v)) (signed_f f (FLT_ENV + 8 * v)) (level_at (stepped_of b f dac fx x).board (chain_filter v h)))
     unfolding voice_of sample_of process_of settings_of
     tangent = sym (ap (λ (c : Chain). limited_of (cutoff_of (signed_f f (FRQ + 2 * v)) (signed_f f (FLT_ENV + 8 * v)) c.flt.level)) own)
+
+    -- of a chain whose coefficients are those of their pair
+    pub cutoff_stored : (s : Side) → FromPair (get_or b.chains v no_chain).coefs → (share_of b f dac v s).cutoff ≡ limited_of (get_or (stepped_of b f dac fx x).board.chains v no_chain).coefs.fc
+    unfolding share_of voice_of sample_of
+    cutoff_stored s r =
+        let same = subst (λ (c : Chain). c.coefs.fc ≡ pair_fc f v c.flt.level) (sym own) (fc_after f v (input_of dac src v) (get_or b.chains v no_chain) r) in
+        tangent ∙ ap limited_of (sym same)
 
     pub of_the_step : (s : Side) → OfTheStep b f dac fx x v h s
     unfolding share_of voice_of sample_of

@@ -24,11 +24,12 @@ use Rattle.board.proofs.Numbers.{not_accepted}
 use Rattle.promise.specs.Calls.{Reached}
 use Rattle.promise.proofs.Kept.{Good, good_levels, stepped_good}
 use Rattle.promise.proofs.Whole.{reached_within}
+use Rattle.promise.proofs.BeforeR8.{reached_right}
 use Rattle.why.specs.Why.{share_of, reason_of, why_refusal_of, told_if, why_of}
 use Rattle.why.specs.Told.{amp_at, Answered, Told}
 use Rattle.why.proofs.Products.{Figures}
 use Rattle.why.proofs.First.{first_true}
-use Rattle.why.proofs.Step.{of_the_step, sums}
+use Rattle.why.proofs.Step.{of_the_step, cutoff_stored, sums}
 use Rattle.why.proofs.Silent.{adds_nothing}
 
 module _ (b : Analog) (f : List ℕ) (dac : List ℤ) (fx : List ℕ) (x : Inputs) (v : ℕ) (s : Side) where
@@ -69,6 +70,7 @@ module _ (b : Analog) (f : List ℕ) (dac : List ℤ) (fx : List ℕ) (x : Input
         first_true = first;
         share = of_the_step b f dac fx x g.long v h s;
         silent = λ k. adds_nothing b f dac s v (first.unheard k);
+        stored = cutoff_stored b f dac fx x g.long v h s (reached_right b r v h);
       }
 
   pub told : Bytes f → Told b f dac fx x v s (why_of b f dac fx x v s)

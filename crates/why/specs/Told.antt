@@ -99,6 +99,8 @@ pub record Answered (b : Analog) (f : List ℕ) (dac : List ℤ) (fx : List ℕ)
   pub first_true : FirstTrue (share_of b f dac v s) reason
   pub share : OfTheStep b f dac fx x v h s
   pub silent : Unheard reason → AddsNothing b f dac v s
+  -- the cutoff is that of the coefficients which the chain stores
+  pub stored : (share_of b f dac v s).cutoff ≡ limited_of (get_or (stepped_of b f dac fx x).board.chains v no_chain).coefs.fc
 
 pub record Told (b : Analog) (f : List ℕ) (dac : List ℤ) (fx : List ℕ) (x : Inputs) (v : ℕ) (s : Side) (r : Result Reason Refusal) : Type 0 where
   -- "The step's own refusals come first, and a voice number above 7 is refused by 11"

@@ -8,7 +8,9 @@ use Rattle.float.specs.Consts.{k0}
 use Rattle.lists.specs.Turns.{turns_of}
 use Rattle.bus.specs.declared.Bus.{Bus}
 use Rattle.bus.specs.Bus.{turn_of, voices_of, EachSideAlone}
-use Rattle.bus.specs.BeforeR5.{LeftAsBefore, voices_before, earlier_chains}
+use Rattle.chain.specs.BeforeR5.{before, earlier_chain}
+use Rattle.bus.specs.Before.{voices_on, earlier_chains}
+use Rattle.bus.specs.BeforeR5.{LeftAsBefore}
 use Rattle.bus.proofs.Alone.{each_side_alone}
 use Rattle.bus.proofs.BeforeR5.{voices_left}
 use Rattle.bus.proofs.voices.Goals as goal
@@ -28,5 +30,5 @@ returns-clause-alone c =
 pub returns-clause-left : goal.returns-clause-left
 returns-clause-left c =
     let a = c.args in
-    subst (λ (b : Bus). LeftAsBefore b (voices_before a.f.now a.dac.now a.src (earlier_chains a.chains))) (sym (returns-clause-value c))
+    subst (λ (b : Bus). LeftAsBefore b (voices_on before a.f.now a.dac.now a.src (earlier_chains earlier_chain a.chains))) (sym (returns-clause-value c))
     (voices_left a.f.now a.dac.now a.src a.chains)

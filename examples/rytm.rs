@@ -93,6 +93,20 @@ pub struct SegEnv {
     pub cmd: bool,
 }
 
+/// A filter's coefficients, with the cutoff in Hz and the resonance that they came from. A step keeps them while both of these keep their bits.
+#[repr(C)]
+#[derive(Clone, Copy, Debug)]
+pub struct Coefs {
+    pub fc: f32,
+    pub res: f32,
+    pub g: f32,
+    pub k: f32,
+    pub a1: f32,
+    pub a2: f32,
+    pub a3: f32,
+    pub a: f32,
+}
+
 #[repr(C)]
 #[derive(Clone, Copy, Debug)]
 pub struct Chain {
@@ -104,6 +118,7 @@ pub struct Chain {
     pub lp1: f32,
     /// The right side's amp.
     pub amp_r: SegEnv,
+    pub coefs: Coefs,
 }
 
 /// The compressor's sidechain filters.
@@ -141,7 +156,7 @@ pub struct Analog {
     pub wobble: Wobble,
 }
 
-const _: () = assert!(std::mem::size_of::<Analog>() == 980);
+const _: () = assert!(std::mem::size_of::<Analog>() == 1236);
 
 #[repr(C)]
 #[derive(Clone, Copy, Debug)]

@@ -56,8 +56,12 @@ typedef struct { uint8_t start, target; uint32_t rate; } Key;
 /* A chain's envelope. */
 typedef struct { Key key; float level; bool hold, cmd; } SegEnv;
 
+/* A filter's coefficients, with the cutoff in Hz and the resonance that they came from. A step keeps them while both of these
+   keep their bits: a board is opaque to its caller, and copied whole. */
+typedef struct { float fc, res, g, k, a1, a2, a3, a; } Coefs;
+
 /* A voice's overdrive, filter and amp: amp the left side's, amp_r the right one's. */
-typedef struct { SegEnv amp, flt; float low, band, lp1; SegEnv amp_r; } Chain;
+typedef struct { SegEnv amp, flt; float low, band, lp1; SegEnv amp_r; Coefs coefs; } Chain;
 
 /* The compressor's sidechain filters, and the compressor. */
 typedef struct { float lo, hi; } Sc;
@@ -65,7 +69,7 @@ typedef struct { float env; Sc sc; } Comp;
 
 typedef struct { float l, r; } Mix;
 
-/* The whole board: 980 bytes, 852 before its chains had a right amp. */
+/* The whole board: 1236 bytes, 980 before its chains kept their filter coefficients. */
 typedef struct {
     DualOsc duals[3];
     Hat hat;
@@ -77,7 +81,7 @@ typedef struct {
 } Analog;
 
 /* Refused where a compiler gives the board another size than the library does. */
-typedef char rytm_board_size[sizeof(Analog) == 980 ? 1 : -1];
+typedef char rytm_board_size[sizeof(Analog) == 1236 ? 1 : -1];
 
 /* What a step gives. number: 0 done; refused by 1 a frame under 664 bytes, 2 under 24 FX bytes, 3 not 16 DAC words,
    4 a DAC word outside -8388608 to 8388607, 5 an input below -1, above 1 or not a number. rx: voices 0 to 7, audio in

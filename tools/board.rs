@@ -1,6 +1,7 @@
 //! Compares the port's board with the Rust of tools/oracle, the published one with the requests in force, step by step: outcome, twelve words, mix and
 //! the whole board, bit for bit; two values that are not numbers count as equal. The Rust refuses nothing: the refusals of
-//! document 01 stand before it here.
+//! document 01 stand before it here. The coefficients that the port's chains keep are no part of the Rust's board: beside them stand those that the Rust
+//! worked out in this very step, of all eight chains, and after a refusal those of before.
 //!
 //!     --steps N           generated steps (default 2000000)
 //!     --seed S            seed of the generated steps (default 1)
@@ -9,6 +10,7 @@
 //!     --receive           each generated step by the call that copies its words, with slot tables and destinations of every kind
 //!     --why               before each step the port is asked of every voice and side why it adds nothing; in half of the patterns some voices
 //!                         all but fall silent
+//!     --stale             boards with wrong coefficients in some chains: the Rust goes by them too where the step's cutoff and resonance have the stored ones' bits
 //!     --record FILE       writes a recording of N generated steps of all styles (at most 4096), and compares nothing
 //!
 //! What a request changes is counted by itself where the oracle (tools/oracle) is without it: of R-3 the FM phases, which have to be all that it met; of R-5 the
@@ -41,6 +43,8 @@ mod states;
 mod boards;
 #[path = "board/case.rs"]
 mod case;
+#[path = "board/coefs.rs"]
+mod coefs;
 #[path = "board/desk.rs"]
 mod desk;
 #[path = "board/faint.rs"]
@@ -61,6 +65,7 @@ mod why;
 mod without;
 
 use case::Case;
+use coefs::Stale;
 use desk::Desk;
 use faint::Faint;
 use fields::{bits, Names};
@@ -71,7 +76,7 @@ use oracle::{counted, told};
 use receive::{Lent, Sides};
 use recording::{Recording, Writer};
 use rng::Rng;
-use rytm::{Analog, Answer, Board, Mix};
+use rytm::{Analog, Answer, Board, Coefs, Mix};
 use std::collections::BTreeSet;
 use why::Questions;
 use without::{Cases, Found, Without};
@@ -98,6 +103,10 @@ struct Report {
     copies: receive::Met,
     /// Where the port is asked why a voice adds nothing.
     questions: Option<Questions>,
+    /// Where boards have wrong coefficients.
+    stale: Option<Stale>,
+    /// A fresh chain's coefficients.
+    coefs: Coefs,
     /// Curve calls, of boards that came from fresh ones and of random ones.
     curves: [[counted::Count; counted::NAMES.len()]; 2],
 }
@@ -110,11 +119,11 @@ struct Apart {
 }
 
 impl Report {
-    fn new(questions: Option<Questions>) -> Report {
-        let (met, copies, curves) = (Met::new(), receive::Met::new(), [counted::take(); 2]);
-        let names = sides::names(&answer(Analog::of(&rust::Analog::fresh(1, false))));
+    fn new(questions: Option<Questions>, stale: Option<Stale>) -> Report {
+        let (met, copies, coefs, curves) = (Met::new(), receive::Met::new(), coefs::fresh(), [counted::take(); 2]);
+        let names = sides::names(&answer(Analog::of(&rust::Analog::fresh(1, false), &[coefs; 8])));
         let of = vec![0; names.words.len()];
-        Report { steps: 0, differ: 0, names, of, without: Without::default(), met, copies, questions, curves }
+        Report { steps: 0, differ: 0, names, of, without: Without::default(), met, copies, questions, stale, coefs, curves }
     }
 
     /// Takes the counts of the curve calls since the last time.
@@ -145,8 +154,11 @@ impl Report {
     /// A fresh board on both sides, compared.
     fn fresh(&mut self, seed: u32, ideal: bool) -> Twin {
         let (port, rust) = (Board::fresh(seed, ideal), rust::Analog::fresh(seed, ideal));
-        let board = Analog::of(&rust);
+        let board = Analog::of(&rust, &[self.coefs; 8]);
         self.met.fresh(seed, ideal);
+        if let Some(stale) = &mut self.stale {
+            stale.begin();
+        }
         let place = || println!("fresh boards differ: seed {seed}, ideal {ideal}");
         let found = self.differs(&answer(*port.state()), &answer(board), Cases::default(), place);
         if self.count(&[found]) {
@@ -188,11 +200,17 @@ impl Report {
         let frame = without::turned(case.frame);
         let (mut other, turned) = (twin.port, Case { frame: &frame, ..*case });
         let asked = self.questions.as_mut().map(|q| q.ask(&twin.port, &turned));
+        if self.stale.is_some() {
+            coefs::arm(&before);
+        }
         let Sides { port: ours, rust: theirs, same } = match copy {
-            Some(copy) => receive::call(&mut twin.port, &mut twin.rust, case, copy, &mut self.copies),
-            None => Sides { rust: sides::rust_step(&mut twin.rust, case), port: sides::port_step(&mut twin.port, case), same: true },
+            Some(copy) => receive::call(&mut twin.port, &mut twin.rust, &before, case, copy, &mut self.copies),
+            None => Sides { rust: coefs::rust_step(&mut twin.rust, &before, case), port: sides::port_step(&mut twin.port, case), same: true },
         };
         let cases = Cases::take();
+        if let (Some(stale), 0) = (&mut self.stale, theirs.number) {
+            stale.note(&before);
+        }
         let written = !same || lent.0 != case.frame || lent.1 != case.dac || lent.2 != case.fx;
         twin.board = theirs.board;
         self.met.note(&before, case, &theirs, cases);
@@ -235,7 +253,7 @@ impl Report {
         }
         if let (Some(q), Some(asked)) = (&mut self.questions, asked) {
             let first = q.differ == 0;
-            let wrong = q.compare(&asked, case, &told::take(), twin.random);
+            let wrong = q.compare(&asked, case, &told::take(), &ours.board, twin.random);
             if first && !wrong.is_empty() {
                 tell();
                 wrong.iter().for_each(|text| println!("  {text}"));
@@ -262,6 +280,7 @@ impl Report {
         let undone = self.without.end(&self.met, generated);
         let these = if oracle::R3 && oracle::R5 && oracle::R7 { "" } else { " but these" };
         let (questions, wrong, unmet) = self.questions.as_ref().map_or((String::new(), 0, false), |q| q.end(self.steps, generated));
+        let unmet = unmet || self.stale.as_ref().is_some_and(|s| s.end(self.steps));
         println!("compared {} steps{questions}: {} differences{these}", self.steps, self.differ + wrong);
         std::process::exit((self.differ + wrong != 0 || undone || unmet) as i32);
     }
@@ -283,8 +302,9 @@ fn stuck(b: &Analog) -> bool {
 fn generated(report: &mut Report, steps: u64, seed: u64, copies: bool) {
     let mut rng = Rng::new(seed);
     let rng = &mut rng;
-    // What fades is drawn apart: nothing else depends on it.
+    // What fades, and the coefficients of random boards, are drawn apart: nothing else depends on them.
     let mut fades = Rng::new(!seed);
+    let mut pairs = Rng::new(!seed.rotate_left(16));
     let mut episode = 0;
     while report.steps < steps {
         let (style, name) = STYLES[(episode % 5) as usize];
@@ -303,14 +323,25 @@ fn generated(report: &mut Report, steps: u64, seed: u64, copies: bool) {
             if let Some(faint) = &mut faint {
                 faint.step(&mut desk);
             }
-            if style == Style::States && rng.one_in(8) {
-                let mut board = boards::random(rng, &desk.frames.frame);
-                if let Some(faint) = &mut faint {
+            let random = style == Style::States && rng.one_in(8);
+            let spoilt = report.stale.as_mut().is_some_and(|s| random || s.rng.one_in(16));
+            if random || spoilt {
+                report.tally(twin.random);
+                let mut board = if random { boards::random(rng, &desk.frames.frame, report.coefs) } else { twin.board };
+                if let (Some(faint), true) = (&mut faint, random) {
                     faint.board(&mut board);
                 }
-                report.tally(twin.random);
+                match &mut report.stale {
+                    Some(stale) => {
+                        if random {
+                            stale.begin();
+                        }
+                        stale.spoil(&mut board, &desk.case());
+                    }
+                    None => coefs::right(&mut pairs, &mut board, &desk.case()),
+                }
                 twin = Twin { port: Board::of(board), rust: board.rust(), board, random: true };
-                report.met.add(Count::Random, true);
+                report.met.add(Count::Random, random);
             }
             let copy = copies.then(|| Lent::new(rng));
             report.step(&mut twin, &desk.case(), copy.as_ref(), &place);
@@ -364,7 +395,8 @@ fn stop(why: &str) -> ! {
 }
 
 fn main() {
-    let (mut steps, mut seed, mut file, mut print, mut to, mut copies, mut why) = (2_000_000, 1, None, false, None, false, false);
+    let (mut steps, mut seed, mut file, mut to) = (2_000_000, 1, None, None);
+    let (mut print, mut copies, mut why, mut stale) = (false, false, false, false);
     let mut words = std::env::args().skip(1);
     while let Some(word) = words.next() {
         let mut value = || words.next().unwrap_or_else(|| stop(&format!("{word}: a value is missing")));
@@ -376,8 +408,9 @@ fn main() {
             "--print" => print = true,
             "--receive" => copies = true,
             "--why" => why = true,
+            "--stale" => stale = true,
             "--record" => to = Some(value()),
-            _ => stop("options: --steps N --seed S [--receive | --why | --record FILE] | --recording FILE [--print | --why]"),
+            _ => stop("options: --steps N --seed S [--receive | --why | --stale | --record FILE] | --recording FILE [--print | --why]"),
         }
     }
     if copies && (file.is_some() || to.is_some()) {
@@ -386,6 +419,9 @@ fn main() {
     if why && (copies || print || to.is_some()) {
         stop("--why is for steps that are compared, and by itself");
     }
+    if stale && (copies || why || file.is_some() || to.is_some()) {
+        stop("--stale is for generated steps that are compared, and by itself");
+    }
     if why && !oracle::R5 {
         stop("--why asks of each side by its own amp level: not --without R-5");
     }
@@ -393,7 +429,8 @@ fn main() {
         return record(&to, steps, seed);
     }
     println!("{}", oracle::ABOUT);
-    let mut report = Report::new(why.then(|| Questions::new(Rng::new(seed.rotate_left(32)))));
+    let apart = |turn: u32| Rng::new(seed.rotate_left(turn));
+    let mut report = Report::new(why.then(|| Questions::new(apart(32))), stale.then(|| Stale::new(apart(48))));
     let generate = file.is_none();
     match file {
         Some(file) => recorded(&mut report, &file, print),

@@ -2,7 +2,7 @@
 
 use crate::oracle::analog as rust;
 use crate::rng::Rng;
-use crate::rytm::{Analog, Chain, Comp, Cym, DualOsc, Hat, Key, Sc, SegEnv, Tom};
+use crate::rytm::{Analog, Chain, Coefs, Comp, Cym, DualOsc, Hat, Key, Sc, SegEnv, Tom};
 use crate::state::{State, SOURCES};
 use crate::states::{self, Wild};
 use crate::strips::AMP_ENV_R;
@@ -22,7 +22,8 @@ fn seg(x: &mut Wild, r: &[u8]) -> SegEnv {
     SegEnv { key, level, hold: x.rng.one_in(2), cmd: x.rng.one_in(2) }
 }
 
-pub fn random(rng: &mut Rng, f: &[u8]) -> Analog {
+/// With these coefficients in every chain.
+pub fn random(rng: &mut Rng, f: &[u8], coefs: Coefs) -> Analog {
     let mut duals: [Option<DualOsc>; 3] = [None; 3];
     let mut toms: [Option<Tom>; 3] = [None; 3];
     let mut metal: (Option<Cym>, Option<Hat>) = (None, None);
@@ -39,7 +40,7 @@ pub fn random(rng: &mut Rng, f: &[u8]) -> Analog {
     let chains = std::array::from_fn(|v| {
         let mut of = |records: usize| seg(&mut x, &f[records + 8 * v..]);
         let (amp, amp_r, flt) = (of(rust::AMP_ENV), of(AMP_ENV_R), of(rust::FLT_ENV));
-        Chain { amp, flt, low: x.filter(), band: x.filter(), lp1: x.filter(), amp_r }
+        Chain { amp, flt, low: x.filter(), band: x.filter(), lp1: x.filter(), amp_r, coefs }
     });
     let usual = x.rng.unit();
     let env = x.float(usual, &[0.0, 1e-6, 9.999999e-7, 1e-5, 1.0, 10.0, -1.0, 1e30]);

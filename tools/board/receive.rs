@@ -1,10 +1,10 @@
 //! The call that copies the receive words, on the two sides: slot tables and destinations, and the copy as the source's words say it.
 
 use crate::case::Case;
+use crate::coefs;
 use crate::oracle::analog as rust;
 use crate::rng::Rng;
 use crate::rytm::{Analog, Answer, Board, Mix};
-use crate::sides;
 
 /// A destination has at most so many words; as many around it have to stay as they are.
 const ROOM: usize = 24;
@@ -155,19 +155,19 @@ pub struct Sides {
     pub same: bool,
 }
 
-pub fn call(port: &mut Board, rust: &mut rust::Analog, case: &Case, lent: &Lent, met: &mut Met) -> Sides {
+pub fn call(port: &mut Board, rust: &mut rust::Analog, before: &Analog, case: &Case, lent: &Lent, met: &mut Met) -> Sides {
     let (mut ours, mut theirs) = (lent.clone(), lent.clone());
     let answer = port.receive(case.frame, case.dac, case.fx, case.audio, case.ext, &lent.slots, ours.dest());
     let mut port = Answer { number: answer.number, rx: [0; 12], mix: answer.mix, board: *port.state() };
     let number = lent.number(case);
     met.note(lent, case, number);
     let rust = if number == 0 {
-        let step = sides::rust_step(rust, case);
+        let step = coefs::rust_step(rust, before, case);
         theirs.dest().copy_from_slice(&copied(&step.rx, &lent.slots));
         port.rx = ours.take();
         Answer { rx: theirs.take(), ..step }
     } else {
-        Answer { number, rx: [0; 12], mix: Mix { l: 0.0, r: 0.0 }, board: Analog::of(rust) }
+        Answer { number, rx: [0; 12], mix: Mix { l: 0.0, r: 0.0 }, board: *before }
     };
     Sides { port, rust, same: ours.memory == theirs.memory && ours.slots == lent.slots }
 }

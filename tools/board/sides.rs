@@ -1,9 +1,10 @@
-//! The board on the two sides: a step's answer by the Rust with document 01's refusals before it, and by the port.
+//! The board on the two sides: a step's answer by the Rust with document 01's refusals before it, and by the port. The coefficients that the port's chains
+//! keep are no part of the Rust's board: `fields` leaves them out, and `stored` has them beside those that the Rust worked out.
 
 use crate::case::Case;
 use crate::fields::{Fields, Names, Row};
 use crate::oracle::analog as rust;
-use crate::rytm::{Analog, Answer, Board, Chain, Comp, Cym, DualOsc, Hat, Key, Mix, Sc, SegEnv, Tom, Wobble};
+use crate::rytm::{Analog, Answer, Board, Chain, Coefs, Comp, Cym, DualOsc, Hat, Key, Mix, Sc, SegEnv, Step, Tom, Wobble};
 
 fn seg(e: &rust::SegEnv) -> SegEnv {
     let (start, target, rate) = e.key;
@@ -14,11 +15,19 @@ fn rust_seg(e: &SegEnv) -> rust::SegEnv {
     rust::SegEnv { key: (e.key.start, e.key.target, e.key.rate), level: e.level, hold: e.hold, cmd: e.cmd }
 }
 
+impl Chain {
+    pub fn rust(&self) -> rust::Chain {
+        let (amp, flt, amp_r) = (rust_seg(&self.amp), rust_seg(&self.flt), rust_seg(&self.amp_r));
+        rust::Chain { amp, flt, low: self.low, band: self.band, lp1: self.lp1, amp_r }
+    }
+}
+
 impl Analog {
-    pub fn of(b: &rust::Analog) -> Analog {
+    /// The Rust's board, with these coefficients in its chains.
+    pub fn of(b: &rust::Analog, coefs: &[Coefs; 8]) -> Analog {
         let chain = |i: usize| {
             let c = &b.chains[i];
-            Chain { amp: seg(&c.amp), flt: seg(&c.flt), low: c.low, band: c.band, lp1: c.lp1, amp_r: seg(&c.amp_r) }
+            Chain { amp: seg(&c.amp), flt: seg(&c.flt), low: c.low, band: c.band, lp1: c.lp1, amp_r: seg(&c.amp_r), coefs: coefs[i] }
         };
         Analog {
             duals: std::array::from_fn(|i| DualOsc::of(&b.duals[i])),
@@ -32,16 +41,12 @@ impl Analog {
     }
 
     pub fn rust(&self) -> rust::Analog {
-        let chain = |c: &Chain| {
-            let (amp, flt, amp_r) = (rust_seg(&c.amp), rust_seg(&c.flt), rust_seg(&c.amp_r));
-            rust::Chain { amp, flt, low: c.low, band: c.band, lp1: c.lp1, amp_r }
-        };
         rust::Analog {
             duals: std::array::from_fn(|i| self.duals[i].rust(i)),
             hat: self.hat.rust(),
             toms: std::array::from_fn(|i| self.toms[i].rust(i)),
             cym: self.cym.rust(),
-            chains: std::array::from_fn(|i| chain(&self.chains[i])),
+            chains: std::array::from_fn(|i| self.chains[i].rust()),
             comp: rust::Comp { env: self.comp.env, sc: (self.comp.sc.lo, self.comp.sc.hi) },
             wobble: rust::Wobble { s: self.wobble.s, depth: self.wobble.depth },
             ..rust::Analog::fresh(1, false)
@@ -50,15 +55,15 @@ impl Analog {
 }
 
 /// One step by the Rust, or a refusal.
-pub fn rust_step(board: &mut rust::Analog, case: &Case) -> Answer {
+pub fn rust_step(board: &mut rust::Analog, case: &Case) -> Step {
     let number = case.number();
     if number != 0 {
-        return Answer { number, rx: [0; 12], mix: Mix { l: 0.0, r: 0.0 }, board: Analog::of(board) };
+        return Step { number, rx: [0; 12], mix: Mix { l: 0.0, r: 0.0 } };
     }
     let dac: &[i32; 16] = case.dac.try_into().unwrap();
     let inputs = rust::Inputs { audio: case.audio.into(), ext: case.ext.into() };
     let out = board.frame(case.frame, dac, case.fx, inputs);
-    Answer { number, rx: out.rx, mix: Mix { l: out.mix.0, r: out.mix.1 }, board: Analog::of(board) }
+    Step { number, rx: out.rx, mix: Mix { l: out.mix.0, r: out.mix.1 } }
 }
 
 /// One step by the port, through the wrapper.
@@ -108,6 +113,20 @@ fn fields<F: Fields>(f: &mut F, a: &Answer) {
     f.wobble(&b.wobble);
 }
 
+/// The coefficients of every chain.
+fn stored<F: Fields>(f: &mut F, b: &Analog) {
+    for (v, c) in b.chains.iter().enumerate() {
+        part(f, "chains", Some(v), |f| {
+            part(f, "coefs", None, |f| {
+                let c = &c.coefs;
+                for (name, x) in [("fc", c.fc), ("res", c.res), ("g", c.g), ("k", c.k), ("a1", c.a1), ("a2", c.a2), ("a3", c.a3), ("a", c.a)] {
+                    f.float(name, x);
+                }
+            })
+        });
+    }
+}
+
 fn part<F: Fields>(f: &mut F, name: &'static str, index: Option<usize>, inside: impl FnOnce(&mut F)) {
     f.enter(name, index);
     inside(f);
@@ -117,11 +136,13 @@ fn part<F: Fields>(f: &mut F, name: &'static str, index: Option<usize>, inside: 
 pub fn row(a: &Answer) -> Row {
     let mut row = Row::new();
     fields(&mut row, a);
+    stored(&mut row, &a.board);
     row
 }
 
 pub fn names(a: &Answer) -> Names {
     let mut names = Names::new();
     fields(&mut names, a);
+    stored(&mut names, &a.board);
     names
 }

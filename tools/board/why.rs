@@ -1,11 +1,11 @@
 //! Why a voice adds nothing: the port's answers before a step, and beside them those that the request's words give of what the Rust tells
-//! of that step.
+//! of that step. An answered cutoff also has to be that of the port's next board, as its chain has it stored.
 
 use crate::case::Case;
 use crate::fields::bits;
-use crate::oracle::Told;
+use crate::oracle::{analog as rust, Told};
 use crate::rng::Rng;
-use crate::rytm::{rytm_why, Board, Reason, Side, Why};
+use crate::rytm::{rytm_why, Analog, Board, Reason, Side, Why};
 
 const SIDES: [(Side, &str); 2] = [(Side::Left, "left"), (Side::Right, "right")];
 const REASONS: [&str; 6] = ["routed off", "amp level at or below 0", "VCA word 0", "filtered sample zero", "lost to rounding", "heard"];
@@ -91,6 +91,8 @@ pub struct Questions {
     rng: Rng,
     asked: u64,
     wrapped: u64,
+    /// Cutoffs that were compared with the next board's.
+    stored: u64,
     pub differ: u64,
     /// Refused, by number; of voices above 7 alone, by number too.
     refused: [u64; 12],
@@ -103,7 +105,7 @@ pub struct Questions {
 impl Questions {
     pub fn new(rng: Rng) -> Questions {
         let (reasons, kinds) = ([[[[0; 8]; 2]; 6]; 2], [[0; 2]; KINDS.len()]);
-        Questions { rng, asked: 0, wrapped: 0, differ: 0, refused: [0; 12], past: [0; 12], reasons, kinds }
+        Questions { rng, asked: 0, wrapped: 0, stored: 0, differ: 0, refused: [0; 12], past: [0; 12], reasons, kinds }
     }
 
     /// Asks the port of every voice and side, and now and then of a voice that there is not.
@@ -125,8 +127,8 @@ impl Questions {
         Asked { voice, side, why, wrapped }
     }
 
-    /// Compares the answers about a step with what the Rust told of it; what differs, in words.
-    pub fn compare(&mut self, asked: &[Asked], case: &Case, told: &[Told; 8], random: bool) -> Vec<String> {
+    /// Compares the answers about a step with what the Rust told of it and with the port's next board; what differs, in words.
+    pub fn compare(&mut self, asked: &[Asked], case: &Case, told: &[Told; 8], next: &Analog, random: bool) -> Vec<String> {
         let number = case.number();
         let mut wrong = Vec::new();
         for a in asked {
@@ -148,6 +150,14 @@ impl Questions {
                 let (ours, side) = (differs.unwrap_or(a.why), SIDES[a.side].1);
                 wrong.push(format!("voice {} {side}: port {}; by the Rust {}", a.voice, show(&ours), show(&expected)));
                 self.differ += 1;
+            }
+            if a.why.number == 0 && a.why.reason == 4 {
+                let stored = next.chains[a.voice as usize].coefs.fc;
+                self.stored += 1;
+                if bits(a.why.value) != bits(stored.min(0.45 * rust::FS)) {
+                    wrong.push(format!("voice {} {}: port {}; its next board has the cutoff {stored:e}", a.voice, SIDES[a.side].1, show(&a.why)));
+                    self.differ += 1;
+                }
             }
         }
         if number == 0 {
@@ -212,6 +222,7 @@ impl Questions {
         println!("questions:");
         println!("{:50}{:>12}", "asked by the C name", self.asked);
         println!("{:50}{:>12}", "by the wrapper too", self.wrapped);
+        println!("{:50}{:>12}", "cutoffs beside the next board's", self.stored);
         for (number, (n, past)) in self.refused.iter().zip(&self.past).enumerate() {
             if matches!(number, 1..=5 | 11) {
                 println!("{:50}{n:>12}, of voices above 7 {past}", format!("refused by {number}"));

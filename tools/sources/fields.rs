@@ -103,7 +103,7 @@ pub fn bits(x: f32) -> u32 {
     }
 }
 
-const MOST: usize = 384;
+const MOST: usize = 448;
 
 /// The words alone.
 pub struct Row {

@@ -1,7 +1,9 @@
 //! Seconds of sound a second: the port, the Rust of tools/oracle with the port's curves, and the same with its own library's.
-//! The same firmware-like steps for each, one thread, turn by turn; the best of each counts.
+//! The same steps for each, one thread, turn by turn; the best of each counts. First firmware-like steps, then noise: every byte of frame and FX, every
+//! DAC word and every input is new in each step. Of both it is told in how many chain samples the filter's cutoff or resonance changed.
 //!
 //!     --seconds N    sound in each turn (default 2)
+//!     --boards N     also so many boards of the port in turn, a step each going round, each with firmware-like steps of its own
 //!
 //! Links board_c curves_c.
 
@@ -40,6 +42,7 @@ use case::Case;
 use desk::Desk;
 use frames::Style;
 use rng::Rng;
+use rytm::{Board, Chain};
 use std::time::Instant;
 
 const SEED: u32 = rytm::DEFAULT_SEED;
@@ -55,6 +58,7 @@ struct Given {
     ext: [f32; 2],
 }
 
+#[derive(Default)]
 struct Tape {
     frames: Vec<Vec<u8>>,
     steps: Vec<Given>,
@@ -62,15 +66,26 @@ struct Tape {
 
 impl Tape {
     /// Accepted firmware-like steps of several patterns.
-    fn new(seconds: usize) -> Tape {
-        let mut rng = Rng::new(1);
-        let mut tape = Tape { frames: Vec::new(), steps: Vec::new() };
-        for pattern in 1..=PATTERNS {
-            let mut desk = Desk::new(&mut rng, Style::Firmware, 200);
-            while tape.steps.len() < 48_000 * seconds * pattern / PATTERNS {
-                desk.step(&mut rng);
+    fn firmware(rng: &mut Rng, steps: usize, patterns: usize) -> Tape {
+        let mut tape = Tape::default();
+        for pattern in 1..=patterns {
+            let mut desk = Desk::new(rng, Style::Firmware, 200);
+            while tape.steps.len() < steps * pattern / patterns {
+                desk.step(rng);
                 tape.take(&desk.case());
             }
+        }
+        tape
+    }
+
+    fn noise(rng: &mut Rng, steps: usize) -> Tape {
+        let mut tape = Tape::default();
+        for _ in 0..steps {
+            let frame: Vec<u8> = (0..664 / 8).flat_map(|_| rng.next().to_be_bytes()).collect();
+            let fx: [u8; 24] = std::array::from_fn(|_| rng.word() as u8);
+            let dac: [i32; 16] = std::array::from_fn(|_| rng.word() as i32 >> 8);
+            let [al, ar, el, er] = std::array::from_fn(|_| 2.0 * rng.unit() - 1.0);
+            tape.take(&Case { frame: &frame, dac: &dac, fx: &fx, audio: [al, ar], ext: [el, er] });
         }
         tape
     }
@@ -108,40 +123,97 @@ macro_rules! rust_turn {
     }};
 }
 
-fn port_turn(tape: &Tape) -> (f64, i64) {
-    let mut board = rytm::Board::fresh(SEED, false);
-    tape.run(|f, g| board.step(f, &g.dac, &g.fx, g.audio, g.ext).rx)
+fn step(board: &mut Board, f: &[u8], g: &Given) -> [i32; 12] {
+    board.step(f, &g.dac, &g.fx, g.audio, g.ext).rx
 }
 
-fn main() {
-    let words: Vec<String> = std::env::args().skip(1).collect();
-    let seconds = match words.iter().map(String::as_str).collect::<Vec<_>>()[..] {
-        [] => Some(2),
-        ["--seconds", n] => n.parse().ok().filter(|&n: &usize| n > 0),
-        _ => None,
-    };
-    let Some(seconds) = seconds else {
-        eprintln!("options: --seconds N");
-        std::process::exit(2);
-    };
-    println!("{}\n{}", oracle::ABOUT, own::ABOUT);
-    let tape = Tape::new(seconds);
+fn port_turn(tape: &Tape) -> (f64, i64) {
+    let mut board = Board::fresh(SEED, false);
+    tape.run(|f, g| step(&mut board, f, g))
+}
+
+/// In how many of the chain samples the cutoff or the resonance changed, by what the port's chains store.
+fn changed(tape: &Tape) -> u64 {
+    let mut board = Board::fresh(SEED, false);
+    let mut changed = 0;
+    tape.run(|f, g| {
+        let before = board.state().chains;
+        let rx = step(&mut board, f, g);
+        let pair = |c: &Chain| [c.coefs.fc.to_bits(), c.coefs.res.to_bits()];
+        changed += before.iter().zip(&board.state().chains).filter(|(b, a)| pair(b) != pair(a)).count() as u64;
+        rx
+    });
+    changed
+}
+
+/// The three rows of one tape; whether the port and the Rust with its curves gave the same words.
+fn timed(name: &str, tape: &Tape) -> bool {
     let mut best = [f64::INFINITY; 3];
     let mut sums = [0; 3];
     for _ in 0..TURNS {
-        let turns = [rust_turn!(tape, own), rust_turn!(tape, oracle), port_turn(&tape)];
+        let turns = [rust_turn!(tape, own), rust_turn!(tape, oracle), port_turn(tape)];
         for (i, (time, sum)) in turns.into_iter().enumerate() {
             best[i] = best[i].min(time);
             sums[i] = sum;
         }
     }
-    println!("{} steps ({seconds} s of sound), best of {TURNS}; a board of {} bytes", tape.steps.len(), std::mem::size_of::<rytm::Analog>());
-    println!("{:32}{:>20}{:>12}{:>12}", "", "sound per second", "ns a step", "against own");
+    let steps = tape.steps.len() as f64;
+    let part = changed(tape) as f64 / (8.0 * steps) * 100.0;
+    println!("{name}: {steps} steps, cutoff or resonance changed in {part:.1} % of the chain samples");
     for (name, time) in ["the Rust, its own curves", "the Rust, the port's curves", "the port"].iter().zip(best) {
-        let ns = time / tape.steps.len() as f64 * 1e9;
-        println!("{name:32}{:>20.1}{ns:>12.0}{:>12.2}", seconds as f64 / time, time / best[0]);
+        println!("  {name:30}{:>20.1}{:>12.0}{:>12.2}", steps / 48_000.0 / time, time / steps * 1e9, time / best[0]);
     }
-    if sums[1] != sums[2] {
+    sums[1] == sums[2]
+}
+
+/// Boards of the port in turn, a step each going round.
+fn many(boards: usize, steps: usize) {
+    let mut rng = Rng::new(2);
+    let tapes: Vec<Tape> = (0..boards).map(|_| Tape::firmware(&mut rng, steps, 1)).collect();
+    let mut best = f64::INFINITY;
+    let mut sum = 0;
+    for _ in 0..TURNS {
+        let mut all: Vec<Board> = (0..boards).map(|i| Board::fresh(SEED ^ i as u32, false)).collect();
+        let from = Instant::now();
+        for i in 0..steps {
+            for (board, tape) in all.iter_mut().zip(&tapes) {
+                let g = &tape.steps[i];
+                sum += step(board, &tape.frames[g.frame], g)[0] as i64;
+            }
+        }
+        best = best.min(from.elapsed().as_secs_f64());
+    }
+    std::hint::black_box(sum);
+    let each = best / (boards * steps) as f64;
+    println!("{boards} boards in turn, {steps} firmware-like steps each: {:.0} ns a step, {:.1} boards in real time on one core", each * 1e9, 1.0 / (48_000.0 * each));
+}
+
+fn main() {
+    let (mut seconds, mut boards) = (2, 0);
+    let words: Vec<String> = std::env::args().skip(1).collect();
+    for pair in words.chunks(2) {
+        match (pair[0].as_str(), pair.get(1).and_then(|w| w.parse::<usize>().ok()).filter(|&n| n > 0)) {
+            ("--seconds", Some(n)) => seconds = n,
+            ("--boards", Some(n)) => boards = n,
+            _ => {
+                eprintln!("options: --seconds N --boards N");
+                std::process::exit(2);
+            }
+        }
+    }
+    println!("{}\n{}", oracle::ABOUT, own::ABOUT);
+    println!("{seconds} s of sound in each turn, best of {TURNS}; a board of {} bytes", std::mem::size_of::<rytm::Analog>());
+    println!("{:32}{:>20}{:>12}{:>12}", "", "sound per second", "ns a step", "against own");
+    let mut rng = Rng::new(1);
+    let tapes = [("firmware-like", Tape::firmware(&mut rng, 48_000 * seconds, PATTERNS)), ("noise", Tape::noise(&mut rng, 48_000 * seconds))];
+    let mut same = true;
+    for (name, tape) in &tapes {
+        same &= timed(name, tape);
+    }
+    if boards > 0 {
+        many(boards, 48_000 * seconds / PATTERNS);
+    }
+    if !same {
         println!("the words of the port and of the Rust with its curves differ: see tools/compare");
         std::process::exit(1);
     }

@@ -17,6 +17,7 @@ extern "C" {
     fn rytm_to_i32(y: f32) -> i32;
     fn rytm_to24(x: f32) -> i32;
     fn rytm_saturating_add(a: u32, b: u32) -> u32;
+    fn rytm_same_bits(a: f32, b: f32) -> bool;
 }
 
 fn to24(x: f32) -> i32 {
@@ -78,9 +79,9 @@ fn unary(rows: &mut [Row; 9], bits: u32) {
     }
 }
 
-const BINARY: [&str; 4] = ["min", "max", "clamp", "saturating_add"];
+const BINARY: [&str; 5] = ["min", "max", "clamp", "saturating_add", "same_bits"];
 
-fn binary(rows: &mut [Row; 4], p: u32, q: u32) {
+fn binary(rows: &mut [Row; 5], p: u32, q: u32) {
     let (a, b) = (f32::from_bits(p), f32::from_bits(q));
     unsafe {
         let open = a == 0.0 && b == 0.0 && p != q;
@@ -100,6 +101,13 @@ fn binary(rows: &mut [Row; 4], p: u32, q: u32) {
         }
         rows[3].words(rytm_saturating_add(p, q) as i64, p.saturating_add(q) as i64, p);
     }
+    bits(&mut rows[4], p, q);
+}
+
+fn bits(row: &mut Row, p: u32, q: u32) {
+    let (a, b) = (f32::from_bits(p), f32::from_bits(q));
+    let (ours, theirs) = (unsafe { rytm_same_bits(a, b) }, same(a, b));
+    row.note(ours == theirs, || format!("{p:08x} and {q:08x} give {ours}, Rust {theirs}"));
 }
 
 /// Zeros, ends of ranges, powers of two and their neighbours, whole numbers and halves, infinities and NaNs; both signs.
@@ -136,6 +144,9 @@ fn main() {
         s ^= s << 17;
         unary(&mut one, s as u32);
         binary(&mut two, s as u32, (s >> 32) as u32);
+        // Rarely equal by chance: the pattern beside itself, and with one bit turned.
+        bits(&mut two[4], s as u32, s as u32);
+        bits(&mut two[4], s as u32, s as u32 ^ 1 << (s >> 59));
     }
     if all {
         for b in 0..=u32::MAX {

@@ -6,7 +6,7 @@ ghost use Rattle.std.specs.Float.{binary32};
 ghost use Rattle.std.specs.Float.Ieee.{of_int, to_signed};
 ghost use Rattle.std.specs.Float.Ieee.Scale.{finite};
 ghost use Rattle.float.specs.Consts.{k1};
-ghost use Rattle.float.specs.Floats.{abs_of, signum_of, min_of, max_of, clamp_of, fract_of, rem_euclid_of, to24_of};
+ghost use Rattle.float.specs.Floats.{abs_of, signum_of, min_of, max_of, clamp_of, same_bits, fract_of, rem_euclid_of, to24_of};
 
 #[unsafe(no_mangle)]
 pub extern "C" fn rytm_abs(x: f32) -> f32
@@ -41,6 +41,13 @@ pub extern "C" fn rytm_clamp(x: f32, lo: f32, hi: f32) -> f32
     ensures { result ≡ clamp_of x lo hi }
 {
     float::clamp(x, lo, hi)
+}
+
+#[unsafe(no_mangle)]
+pub extern "C" fn rytm_same_bits(a: f32, b: f32) -> bool
+    ensures { result ≡ same_bits a b }
+{
+    float::same_bits(a, b)
 }
 
 #[unsafe(no_mangle)]

@@ -93,7 +93,8 @@ pub struct SegEnv {
     pub cmd: bool,
 }
 
-/// A filter's coefficients, with the cutoff in Hz and the resonance that they came from. A step keeps them while both of these keep their bits.
+/// A filter's coefficients, with the cutoff in Hz and the resonance that they came from. A step works them out anew where either of these differs in
+/// its bits, and else goes by the stored ones.
 #[repr(C)]
 #[derive(Clone, Copy, Debug)]
 pub struct Coefs {

@@ -56,8 +56,8 @@ typedef struct { uint8_t start, target; uint32_t rate; } Key;
 /* A chain's envelope. */
 typedef struct { Key key; float level; bool hold, cmd; } SegEnv;
 
-/* A filter's coefficients, with the cutoff in Hz and the resonance that they came from. A step keeps them while both of these
-   keep their bits: a board is opaque to its caller, and copied whole. */
+/* A filter's coefficients, with the cutoff in Hz and the resonance that they came from. A step works them out anew where either of
+   these differs in its bits, and else goes by the stored ones: a board is opaque to its caller, and copied whole. */
 typedef struct { float fc, res, g, k, a1, a2, a3, a; } Coefs;
 
 /* A voice's overdrive, filter and amp: amp the left side's, amp_r the right one's. */

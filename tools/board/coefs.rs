@@ -183,12 +183,15 @@ impl Stale {
             let nan = pairs.iter().any(|(a, b)| a.is_nan() || b.is_nan());
             let one_bit = pairs.map(|(a, b)| (a.to_bits() ^ b.to_bits()).count_ones() == 1);
             let kind = match same {
-                [true, true] => if nan { Kind::KeptNan } else { Kind::Kept },
+                [true, true] if nan => Kind::KeptNan,
+                [true, true] => Kind::Kept,
                 [false, false] => Kind::Both,
                 _ if nan => Kind::Nan,
-                [false, _] => if one_bit[0] { Kind::CutoffBit } else { Kind::Cutoff },
+                [false, _] if one_bit[0] => Kind::CutoffBit,
+                [false, _] => Kind::Cutoff,
                 _ if was.res == fresh.res => Kind::Zero,
-                _ => if one_bit[1] { Kind::ResonanceBit } else { Kind::Resonance },
+                _ if one_bit[1] => Kind::ResonanceBit,
+                _ => Kind::Resonance,
             };
             self.kinds[kind as usize] += (*wrong && was.numbers() != fresh.numbers()) as u64;
             *wrong &= same == [true, true];

@@ -87,12 +87,14 @@ fn spoil(rng: &mut Rng, c: &mut Chain, case: &Case, v: usize) {
     }
     let Coefs { mut fc, mut res, .. } = next(c, case, v).unwrap_or_else(|| any(rng));
     let flipped = |x: f32, bit: u32| f32::from_bits(x.to_bits() ^ 1 << bit);
-    match rng.below(8) {
+    match rng.below(10) {
         0 => fc = flipped(fc, rng.pick(&[0, 0, 1, 22, 23, 31])),
         1 => res = flipped(res, rng.pick(&[0, 0, 1, 22, 23])),
         2 => res = -res,
         3 if rng.one_in(2) => fc = f32::NAN,
         3 => res = f32::NAN,
+        4 if rng.one_in(2) => fc = any(rng).fc,
+        4 => res = any(rng).res,
         _ => {}
     }
     c.coefs = Coefs { fc, res, ..wrong(rng) };
@@ -142,7 +144,7 @@ const KINDS: [&str; 9] = [
 ];
 
 /// In so many steps each kind has to be met so often.
-const ENOUGH: (u64, u64) = (100_000, 50);
+const ENOUGH: (u64, u64) = (500_000, 100);
 
 /// Runs with wrong coefficients stored: the Rust goes by these too where a step's pair is the stored one.
 pub struct Stale {

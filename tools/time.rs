@@ -3,6 +3,7 @@
 //! DAC word and every input is new in each step. Of both it is told in how many chain samples the filter's cutoff or resonance changed.
 //!
 //!     --seconds N    sound in each turn (default 2)
+//!     --only NAME    firmware or noise alone
 //!     --boards N     also so many boards of the port in turn, a step each going round, each with firmware-like steps of its own
 //!
 //! Links board_c curves_c.
@@ -189,26 +190,30 @@ fn many(boards: usize, steps: usize) {
 }
 
 fn main() {
-    let (mut seconds, mut boards) = (2, 0);
+    let (mut seconds, mut boards, mut only) = (2, 0, None);
     let words: Vec<String> = std::env::args().skip(1).collect();
     for pair in words.chunks(2) {
-        match (pair[0].as_str(), pair.get(1).and_then(|w| w.parse::<usize>().ok()).filter(|&n| n > 0)) {
+        let value = pair.get(1).map_or("", String::as_str);
+        match (pair[0].as_str(), value.parse::<usize>().ok().filter(|&n| n > 0)) {
             ("--seconds", Some(n)) => seconds = n,
             ("--boards", Some(n)) => boards = n,
+            ("--only", _) if matches!(value, "firmware" | "noise") => only = Some(value),
             _ => {
-                eprintln!("options: --seconds N --boards N");
+                eprintln!("options: --seconds N --only firmware|noise --boards N");
                 std::process::exit(2);
             }
         }
     }
+    let wanted = |name: &str| only.is_none_or(|only| only == name);
     println!("{}\n{}", oracle::ABOUT, own::ABOUT);
     println!("{seconds} s of sound in each turn, best of {TURNS}; a board of {} bytes", std::mem::size_of::<rytm::Analog>());
     println!("{:32}{:>20}{:>12}{:>12}", "", "sound per second", "ns a step", "against own");
-    let mut rng = Rng::new(1);
-    let tapes = [("firmware-like", Tape::firmware(&mut rng, 48_000 * seconds, PATTERNS)), ("noise", Tape::noise(&mut rng, 48_000 * seconds))];
     let mut same = true;
-    for (name, tape) in &tapes {
-        same &= timed(name, tape);
+    if wanted("firmware") {
+        same &= timed("firmware-like", &Tape::firmware(&mut Rng::new(1), 48_000 * seconds, PATTERNS));
+    }
+    if wanted("noise") {
+        same &= timed("noise", &Tape::noise(&mut Rng::new(1), 48_000 * seconds));
     }
     if boards > 0 {
         many(boards, 48_000 * seconds / PATTERNS);

@@ -1,6 +1,6 @@
 -- A step beside one on boards with chains of before a request: where each chain's sample, as long as something holds of it, gives what it gave then and keeps that, so does
 -- the step. Assumes nothing.
-use Prim.Native.Nat.{ℕ, zero, suc, ◌<◌}
+use Prim.Native.Nat.{ℕ, zero, suc}
 use mathlib.Core.Path.{◌≡◌, refl, sym, ap, ◌∙◌, subst}
 use mathlib.Core.Bool.{Bool}
 use mathlib.Core.List.{List, ◌∷◌}

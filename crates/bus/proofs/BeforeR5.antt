@@ -1,6 +1,6 @@
 -- The voices beside those before R-5: receive words, left mix and the chains' earlier fields are theirs on any frame; and where both records of each voice are the same
 -- bytes, all of it while both amps of each chain stand alike. Assumes nothing.
-use Prim.Native.Nat.{ℕ, ◌<◌}
+use Prim.Native.Nat.{ℕ}
 use mathlib.Core.Path.{◌≡◌, refl, sym, ap, ap₂, ◌∙◌}
 use mathlib.Core.Bool.{cond}
 use mathlib.Core.List.{List}

@@ -5,7 +5,7 @@ use mathlib.Core.Path.{◌≡◌, refl, sym, ap, ap₂, ◌∙◌, subst}
 use mathlib.Core.Bool.{◌&&◌}
 use mathlib.Core.List.{List}
 use lib.Dec.{T}
-use lib.Ieee.{Float, binary32, nan, fits, of_bits}
+use lib.Ieee.{Float, binary32, fits, of_bits}
 use lib.Ieee.Fits.{and_l, and_r, mul-fits, div-fits}
 use Rattle.std.proofs.lemmas.Bool.{cond_both}
 use Rattle.std.proofs.lemmas.Float.{T_from_true}

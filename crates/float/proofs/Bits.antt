@@ -1,5 +1,5 @@
 -- Two floats have the same bits exactly where they are one value; and what is clamped is a float. Assumes nothing.
-use mathlib.Core.Path.{◌≡◌, sym, ap, ◌∙◌, subst}
+use mathlib.Core.Path.{◌≡◌, sym, ap, ◌∙◌}
 use lib.Dec.{T, eqb→eq}
 use lib.Ieee.{Float, binary32, fits, of_bits, to_bits, lt}
 use lib.Ieee.Bits.{of_bits-to_bits}

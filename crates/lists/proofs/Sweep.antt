@@ -1,7 +1,7 @@
 -- What holds at the start and is kept by each turn holds at the end, of one run and of two beside each other; a sweep gives each element what its own rule gives; and so do turns that carry more than the list. Assumes nothing.
 use Prim.Native.Nat.{ℕ, zero, suc, ◌≤◌, ◌<◌}
 use native.Mathlib.Omega.{arith}
-use native.Mathlib.Decide.{dec_lt, ℕ_discrete}
+use native.Mathlib.Decide.{dec_lt}
 use mathlib.Core.Path.{◌≡◌, refl, sym, ◌∙◌, ap, subst}
 use mathlib.Core.List.{List, [], ◌∷◌}
 use lib.ListN.{get_or, set, length, length-set}

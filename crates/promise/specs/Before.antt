@@ -1,5 +1,5 @@
 -- Lists of calls by the step of before a request, on the boards of then, and that they answered the same. Definitions only.
-use Rattle.std.specs.Prelude.{ℕ, ◌≡◌, Bool, cond, List, [], ◌∷◌, length}
+use Rattle.std.specs.Prelude.{◌≡◌, cond, List, [], ◌∷◌, length}
 use Rattle.board.specs.declared.Analog.{Analog}
 use Rattle.board.specs.Before.{StepOn, answer_on, earlier_answer}
 use Rattle.receive.specs.Receive.{receive_refusal_of, received_of, destination_of}

@@ -14,9 +14,9 @@ use Rattle.float.specs.Floats.{same_bits}
 use Rattle.float.proofs.Bits.{one_value, clamp_fits}
 use Rattle.chain.specs.declared.Chain.{Chain}
 use Rattle.chain.specs.declared.Coefs.{Coefs}
-use Rattle.chain.specs.Chain.{chain_new, settings_of, cutoff_of, res_of, coefs_of, stored_of, lp1_of, filter_of, process_of, pair_fc, pair_res}
+use Rattle.chain.specs.Chain.{chain_new, settings_of, cutoff_of, res_of, coefs_of, stored_of, multimode_of, lp1_of, filter_of, process_of, pair_fc, pair_res}
 use Rattle.chain.specs.Before.{earlier_out}
-use Rattle.chain.specs.BeforeR8.{process_before, filter_before, lp1_before, earlier_chain}
+use Rattle.chain.specs.BeforeR8.{process_before, filter_before, coefs_before, multimode_before, lp1_before, earlier_chain}
 
 -- coefficients that are those of their pair
 pub record FromPair (q : Coefs) : Type 0 where
@@ -55,7 +55,7 @@ module _ (f : List ℕ) (v : ℕ) (x : Float) (c : Chain) (r : FromPair c.coefs)
   anew = stored_is c.coefs fc (pair_res f v) r (fc_fits f v _) (res_fits f v)
 
   pub as_before : process_before f v x (earlier_chain c) ≡ earlier_out earlier_chain (process_of f v x c)
-  unfolding process_of settings_of filter_of lp1_of coefs_of process_before filter_before lp1_before
+  unfolding process_of settings_of filter_of multimode_of lp1_of coefs_of process_before filter_before coefs_before multimode_before lp1_before
   as_before = rw anew refl
 
   pub fc_after : (process_of f v x c).chain.coefs.fc ≡ fc

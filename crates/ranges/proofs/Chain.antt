@@ -1,8 +1,8 @@
 -- What a voice's chain gives to exp2, tan and exp lies in their ranges. Assumes nothing.
 use Prim.Native.Nat.{ℕ, ◌+◌, ◌*◌}
 use mathlib.Core.List.{List}
-use lib.Ieee.{Float, binary32, neg, of_bits}
-use Rattle.line.proofs.Range.{In}
+use lib.Ieee.{Float, binary32, neg, of_bits, fits, le, lt, eq}
+use Rattle.line.proofs.Range.{In, in_of}
 use Rattle.float.specs.Consts.{k0, k10, k12, k60, k64, k127, k440, k512, k22000, k0p45, FS, TAU, PI}
 use Rattle.float.specs.Ops.{◌⊗◌}
 use Rattle.float.proofs.Eval.{leaf, con, plus, minus, times, over, capped, floored, clamped, range, proves}
@@ -30,6 +30,11 @@ module _ (f : List ℕ) (B : Bytes f) (v : ℕ) (l : Float) (h : Level l) where
   pub cutoff_in : In binary32 k10 k22000 (cutoff_of (frq_word f v) (depth_word f v) l)
   unfolding cutoff_of of_bits proves
   cutoff_in = range k10 k22000 (clamped (times (con k440) (leaf (small_power cutoff_small))) k10 k22000) tt
+
+-- a fresh chain's
+pub fresh_cutoff_in : In binary32 k10 k22000 k440
+unfolding of_bits fits le lt eq
+fresh_cutoff_in = in_of binary32 k10 k22000 k440 tt tt tt tt
 
 pub tan_call : (fc : Float) → In binary32 k10 k22000 fc → InTan (tangent fc)
 unfolding limited_of of_bits proves

@@ -12,8 +12,7 @@ use Rattle.std.specs.Prelude.{Option, Some}
 use Rattle.std.specs.Int.Signed.{le_z}
 use Rattle.frame.specs.Offsets.{FRAME_BYTES}
 use Rattle.frame.specs.Frame.{Bytes}
-use Rattle.sources.specs.declared.Sources.{Sources}
-use Rattle.sources.specs.Sources.{sound_of}
+use Rattle.sources.specs.Sources.{Sources, sound_of}
 use Rattle.sources.specs.BeforeR7.{sound_before}
 use Rattle.sources.proofs.Kept.{SourcesIn}
 use Rattle.sources.proofs.BeforeR7.{Beside, sound_beside, all_at}

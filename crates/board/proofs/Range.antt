@@ -18,7 +18,7 @@ use Rattle.board.specs.declared.Inputs.{Inputs}
 use Rattle.board.specs.declared.refusals.Refusal.{Refusal}
 use Rattle.board.specs.Board.{words_of, taken_of, stepped_of, refused_of, accepted, refusal_of, answered_if, answer_of}
 
-set_words : (rx : List ℤ) (audio mix : Mix) → InWordRange rx → InWordRange (words_of rx audio mix)
+pub set_words : (rx : List ℤ) (audio mix : Mix) → InWordRange rx → InWordRange (words_of rx audio mix)
 unfolding words_of
 set_words rx audio mix h =
     let a = set rx 8 (to24_of (audio.l ⊗ k0p5)) in

@@ -11,8 +11,7 @@ use Rattle.tom.specs.declared.Tom.{Tom}
 use Rattle.tom.specs.Tom.{tom_new}
 use Rattle.cym.specs.declared.Cym.{Cym}
 use Rattle.cym.specs.Cym.{cym_new}
-use Rattle.sources.specs.declared.Sources.{Sources}
-use Rattle.sources.specs.Sources.{sound_of}
+use Rattle.sources.specs.Sources.{Sources, sound_of}
 use Rattle.chain.specs.declared.Chain.{Chain}
 use Rattle.chain.specs.Before.{Kind}
 use Rattle.bus.specs.Bus.{master_of}

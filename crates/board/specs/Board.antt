@@ -11,8 +11,7 @@ use Rattle.dual.specs.Dual.{dual_new}
 use Rattle.hat.specs.Hat.{hat_new}
 use Rattle.tom.specs.Tom.{tom_new}
 use Rattle.cym.specs.Cym.{cym_new}
-use Rattle.sources.specs.Sources.{sound_of}
-use Rattle.sources.specs.declared.Sources.{Sources}
+use Rattle.sources.specs.Sources.{Sources, sound_of}
 use Rattle.chain.specs.Chain.{chain_new}
 use Rattle.chain.specs.declared.ChainOut.{ChainOut}
 use Rattle.bus.specs.Bus.{sample_of, voices_of, master_of}

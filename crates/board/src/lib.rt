@@ -4,12 +4,13 @@
 ghost use Rattle.std.specs.Prelude.{◌≡◌, Bool, ◌≤◌, ◌<◌, length, Some, IfOk};
 ghost use Rattle.std.specs.Result.{result_err};
 ghost use Rattle.frame.specs.Offsets.{FRAME_BYTES};
+ghost use Rattle.sources.specs.Sources.{sources, sound_of};
 ghost use Rattle.bus.specs.Bus.{InWordRange};
 ghost use Rattle.board.specs.Board.{fresh_of, number_of, inputs_of, in_range, all_in_range, input_ok, inputs_ok, refusal_of, refused_of, words_of, taken_of, voice_of, stepped_of, answer_of};
 
 mod refusals;
 
-use bus::Bus;
+use bus::BusOut;
 use chain::{Chain, ChainOut};
 use comp::{Comp, CompOut, Parameters};
 use cym::Cym;
@@ -17,7 +18,6 @@ use dual::DualOsc;
 use frame::{DacWords, Frame};
 use hat::Hat;
 pub use refusals::Refusal;
-use sources::Sources;
 use stereo::Mix;
 use tom::Tom;
 use wobble::Wobble;
@@ -213,71 +213,50 @@ fn words(rx: [i32; 12], audio: Mix, mix: Mix) -> [i32; 12]
     next
 }
 
-// The board's sources before any has sounded.
+// The sources of a board, which have sounded after this, and their samples.
 #[tactic(auto, unfolding(crate::specs::Board::taken_of))]
-fn taken(board: Analog) -> Sources
-    ensures { result ≡ taken_of board }
+fn sound(board: &mut Analog, call: &StepCall) -> [f32; 8]
+    ensures sources { sources board.new.duals board.new.hat board.new.toms board.new.cym board.new.wobble result ≡ sound_of call.now.frame call.now.dac (taken_of board.old) }
+    ensures rest { (board.new.chains ≡ board.old.chains) × (board.new.comp ≡ board.old.comp) }
 {
-    let Analog {
-        duals,
-        hat,
-        toms,
-        cym,
-        wobble,
-        ..
-    } = board;
-    Sources {
-        duals,
-        hat,
-        toms,
-        cym,
-        w: wobble,
-        src: [0.0; 8],
-    }
+    sources::sound(
+        &mut board.duals,
+        &mut board.toms,
+        &mut board.cym,
+        &mut board.hat,
+        &mut board.wobble,
+        &call.frame,
+        &call.dac,
+    )
 }
 
 // Voice v's sample in this step, its chain after it, and what its filter made of it.
 #[tactic(auto, unfolding(bus::specs::Bus::input_of, bus::specs::Bus::sample_of, crate::specs::Board::voice_of))]
-pub fn voice(board: Analog, call: &StepCall, v: usize) -> ChainOut
+pub fn voice(mut board: Analog, call: &StepCall, v: usize) -> ChainOut
     requires { v < 8 }
     ensures { result ≡ voice_of board call.now.frame call.now.dac v }
 {
-    let src = sources::sound(taken(board), &call.frame, &call.dac).src;
+    let src = sound(&mut board, call);
     bus::sample(board.chains[v], &call.frame, &call.dac, v, src[v])
 }
 
 // One sample, of a call that is not refused. Put into its two callers by the compiler, the board is copied once less on its way: 512 of a step's 14,241 instructions.
 #[inline(always)]
-#[tactic(auto, unfolding(crate::specs::Board::stepped_of, crate::specs::Board::taken_of), using(crate::proofs::Range::stepped_words))]
-pub fn stepped(board: Analog, call: &StepCall) -> Answer
+#[tactic(auto, unfolding(crate::specs::Board::stepped_of))]
+pub fn stepped(mut board: Analog, call: &StepCall) -> Answer
     ensures value { result ≡ stepped_of board call.now.frame call.now.dac call.now.fx call.now.inputs }
     ensures words { InWordRange result.rx }
 {
-    let Sources {
-        duals,
-        hat,
-        toms,
-        cym,
-        w: wobble,
-        src,
-    } = sources::sound(taken(board), &call.frame, &call.dac);
-    let Bus { chains, rx, mix } = bus::voices(board.chains, &call.frame, &call.dac, src);
+    let src = sound(&mut board, call);
+    let BusOut { rx, mix } = bus::voices(&mut board.chains, &call.frame, &call.dac, src);
     let main = bus::master(&call.frame, &call.dac, mix, call.inputs.ext);
     let CompOut { comp, mix } = board.comp.process(&call.fx, main);
-    let rx = words(rx, call.inputs.audio, mix);
+    board.comp = comp;
     Answer {
         refusal: None,
-        rx,
+        rx: words(rx, call.inputs.audio, mix),
         mix,
-        board: Analog {
-            duals,
-            hat,
-            toms,
-            cym,
-            chains,
-            comp,
-            wobble,
-        },
+        board,
     }
 }
 

@@ -16,8 +16,7 @@ use Rattle.lists.proofs.Sweep.{turns_later}
 use Rattle.stereo.specs.declared.Mix.{Mix}
 use Rattle.chain.specs.declared.Chain.{Chain}
 use Rattle.chain.specs.Chain.{no_chain, process_of}
-use Rattle.bus.specs.declared.Bus.{Bus}
-use Rattle.bus.specs.Bus.{input_of, contribution_of, added_of, turn_of, voices_of, sample_of, sum_of, EachSideAlone}
+use Rattle.bus.specs.Bus.{Bus, input_of, contribution_of, added_of, turn_of, voices_of, sample_of, sum_of, EachSideAlone}
 use Rattle.bus.proofs.Kept.{Fed, turn}
 
 -- a side of a mix that a voice is added to or kept from

@@ -15,8 +15,7 @@ use Rattle.chain.specs.declared.Chain.{Chain}
 use Rattle.chain.specs.declared.ChainOut.{ChainOut}
 use Rattle.chain.specs.Chain.{no_chain, process_of}
 use Rattle.chain.specs.Before.{OutOn, Kind, earlier_out}
-use Rattle.bus.specs.declared.Bus.{Bus}
-use Rattle.bus.specs.Bus.{input_of, added_of, turn_of, voices_of}
+use Rattle.bus.specs.Bus.{Bus, input_of, added_of, turn_of, voices_of}
 use Rattle.bus.specs.Before.{BusOn, turn_on, voices_on, earlier_chains, earlier_bus}
 
 -- I of each of the eight chains

@@ -21,8 +21,7 @@ use Rattle.chain.specs.Chain.{no_chain, process_of}
 use Rattle.chain.specs.Before.{OutOn}
 use Rattle.chain.specs.BeforeR5.{ChainBefore, process_before, earlier_chain, before}
 use Rattle.chain.proofs.BeforeR5.{left_of, left_as_before, as_before, alike_after}
-use Rattle.bus.specs.declared.Bus.{Bus}
-use Rattle.bus.specs.Bus.{input_of, contribution_of, added_of, turn_of, voices_of}
+use Rattle.bus.specs.Bus.{Bus, input_of, contribution_of, added_of, turn_of, voices_of}
 use Rattle.bus.specs.Before.{BusOn, turn_on, voices_on, earlier_chains}
 use Rattle.bus.specs.BeforeR5.{LeftAsBefore, SameRecords}
 use Rattle.bus.proofs.Alone.{pushed}

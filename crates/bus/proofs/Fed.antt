@@ -21,8 +21,7 @@ use Rattle.float.proofs.Eval.{leaf, con, times, over, range, proves}
 use Rattle.float.proofs.Zeros.{Alike, alike_plus, positive, negative}
 use Rattle.lists.proofs.Sweep.{turns_match}
 use Rattle.chain.specs.declared.Chain.{Chain}
-use Rattle.bus.specs.declared.Bus.{Bus}
-use Rattle.bus.specs.Bus.{dac_f, fed_of, input_of, turn_of, voices_of}
+use Rattle.bus.specs.Bus.{Bus, dac_f, fed_of, input_of, turn_of, voices_of}
 
 -- a DAC word of the step's range, as its chain takes it: 0, from 2 ^ -24 on, or up to -2 ^ -24
 abbrev least : Float

@@ -15,8 +15,7 @@ use Rattle.float.proofs.Laws.{word_in}
 use Rattle.lists.proofs.Sweep.{turns_keep, set_keeps, Turn, turns_length, turns_at}
 use Rattle.chain.specs.declared.Chain.{Chain}
 use Rattle.chain.specs.Chain.{no_chain, process_of}
-use Rattle.bus.specs.declared.Bus.{Bus}
-use Rattle.bus.specs.Bus.{input_of, turn_of, voices_of, sample_of, InWordRange}
+use Rattle.bus.specs.Bus.{Bus, input_of, turn_of, voices_of, sample_of, InWordRange}
 
 -- ---- each chain by its own sample
 pub record ChainBy (f : List ℕ) (v : ℕ) (old new : Chain) : Type 0 where

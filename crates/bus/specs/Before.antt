@@ -8,8 +8,7 @@ use Rattle.chain.specs.declared.Chain.{Chain}
 use Rattle.chain.specs.Chain.{no_chain}
 use Rattle.chain.specs.Before.{Kind}
 use Rattle.stereo.specs.declared.Mix.{Mix}
-use Rattle.bus.specs.declared.Bus.{Bus}
-use Rattle.bus.specs.Bus.{input_of, added_of}
+use Rattle.bus.specs.Bus.{Bus, input_of, added_of}
 
 pub record BusOn (C : Type 0) : Type 0 where
   pub chains : List C

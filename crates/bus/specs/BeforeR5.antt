@@ -3,7 +3,7 @@ use Rattle.std.specs.Prelude.{ℕ, ◌≡◌, ◌+◌, ◌*◌, ◌<◌, List}
 use Rattle.frame.specs.Offsets.{AMP_ENV, AMP_ENV_R}
 use Rattle.frame.specs.Frame.{bytes_at}
 use Rattle.chain.specs.BeforeR5.{ChainBefore, earlier_chain}
-use Rattle.bus.specs.declared.Bus.{Bus}
+use Rattle.bus.specs.Bus.{Bus}
 use Rattle.bus.specs.Before.{BusOn, earlier_chains}
 
 -- receive words, left mix and the chains' earlier fields are those of then

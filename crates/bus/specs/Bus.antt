@@ -13,7 +13,7 @@ use Rattle.chain.specs.declared.Chain.{Chain}
 use Rattle.chain.specs.declared.ChainOut.{ChainOut}
 use Rattle.chain.specs.Chain.{no_chain, process_of}
 use Rattle.stereo.specs.declared.Mix.{Mix}
-use Rattle.bus.specs.declared.Bus.{Bus}
+use Rattle.bus.specs.declared.BusOut.{BusOut}
 
 -- "DAC 12, 13 negated", before the distortion, and "DAC 14, 15" after it: the FX returns
 abbrev pub DAC_PRE : ℕ
@@ -44,6 +44,15 @@ contribution_of f vca v y = y ⊗ word_f f (vca + 2 * v) ⊘ k32767
 -- the mix with voice v: "a set bit keeps the voice from the mix only"
 unfoldable pub added_of : List ℕ → ℕ → Mix → Mix → Mix
 added_of f v m y = cond (routed_off f v) m (record { l = m.l ⊕ contribution_of f VCA_L v y.l; r = m.r ⊕ contribution_of f VCA_R v y.r })
+
+-- the chains, the receive words and the mix as far as the voices have gone
+pub record Bus : Type 0 where
+  pub chains : List Chain
+  pub rx : List ℤ
+  pub mix : Mix
+
+abbrev pub bus : List Chain → BusOut → Bus
+bus chains o = record { chains = chains; rx = o.rx; mix = o.mix }
 
 -- voice v: its chain's left output × 0.5 becomes receive word v
 unfoldable pub turn_of : List ℕ → List ℤ → List Float → ℕ → Bus → Bus

@@ -4,7 +4,7 @@
 ghost use Rattle.std.specs.Prelude.{◌≡◌, ◌≤◌, ◌<◌};
 ghost use Rattle.frame.specs.Offsets.{VCA_R};
 ghost use Rattle.chain.specs.Chain.{process_of};
-ghost use Rattle.bus.specs.Bus.{dac_f, return_of, fed_of, contribution_of, added_of, EachSideAlone, voices_of, distort_of, master_of};
+ghost use Rattle.bus.specs.Bus.{dac_f, return_of, fed_of, contribution_of, added_of, bus, EachSideAlone, voices_of, distort_of, master_of};
 ghost use Rattle.chain.specs.BeforeR5.{before, earlier_chain};
 ghost use Rattle.bus.specs.Before.{voices_on, earlier_chains};
 ghost use Rattle.bus.specs.BeforeR5.{LeftAsBefore};
@@ -70,20 +70,19 @@ pub fn sample(chain: Chain, f: &Frame, dac: &DacWords, v: usize, src: f32) -> Ch
     chain.process(f, v, x)
 }
 
-// The chains, the receive words and the mix, as far as the voices have gone.
+// The receive words and the mix, as far as the voices have gone.
 #[derive(Clone, Copy)]
-pub struct Bus {
-    pub chains: [Chain; 8],
+pub struct BusOut {
     pub rx: [i32; 12],
     pub mix: Mix,
 }
 
-// Voices 0 to 7 in turn.
+// Voices 0 to 7 in turn. The chains are the board's own, changed in place.
 #[tactic(auto, unfolding(lists::specs::Turns::turns_of, crate::specs::Bus::input_of, crate::specs::Bus::turn_of, crate::specs::Bus::voices_of))]
-pub fn voices(mut chains: [Chain; 8], f: &Frame, dac: &DacWords, src: [f32; 8]) -> Bus
-    ensures value { result ≡ voices_of f.now dac.now src chains }
-    ensures alone { EachSideAlone f.now dac.now src chains result.mix }
-    ensures left { LeftAsBefore result (voices_on before f.now dac.now src (earlier_chains earlier_chain chains)) }
+pub fn voices(chains: &mut [Chain; 8], f: &Frame, dac: &DacWords, src: [f32; 8]) -> BusOut
+    ensures value { bus chains.new result ≡ voices_of f.now dac.now src chains.old }
+    ensures alone { EachSideAlone f.now dac.now src chains.old result.mix }
+    ensures left { LeftAsBefore (bus chains.new result) (voices_on before f.now dac.now src (earlier_chains earlier_chain chains.old)) }
 {
     let mut rx: [i32; 12] = [0; 12];
     let mut mix = Mix { l: 0.0, r: 0.0 };
@@ -93,7 +92,7 @@ pub fn voices(mut chains: [Chain; 8], f: &Frame, dac: &DacWords, src: [f32; 8]) 
         rx[v] = float::to24(o.y.l * 0.5);
         mix = added(f, v, mix, o.y);
     }
-    Bus { chains, rx, mix }
+    BusOut { rx, mix }
 }
 
 // The master distortion, of the amount word 0.

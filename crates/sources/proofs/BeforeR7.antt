@@ -28,8 +28,7 @@ use Rattle.cym.specs.Cym as Cym
 use Rattle.hat.specs.declared.Hat.{Hat}
 use Rattle.hat.specs.declared.HatOut.{HatOut}
 use Rattle.hat.specs.Hat as Hat
-use Rattle.sources.specs.declared.Sources.{Sources}
-use Rattle.sources.specs.Sources.{no_dual, no_tom, dual_turn, duals_of, tom_turn, toms_of, metal_of, sound_of}
+use Rattle.sources.specs.Sources.{Sources, no_dual, no_tom, dual_turn, duals_of, tom_turn, toms_of, metal_of, sound_of}
 use Rattle.sources.specs.BeforeR7.{dual_turn_before, duals_before, sound_before}
 use Rattle.sources.proofs.Kept.{SourcesIn, dual_later}
 

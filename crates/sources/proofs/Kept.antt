@@ -21,8 +21,7 @@ use Rattle.hat.proofs.Kept.{HatIn, hat_in}
 use Rattle.cym.specs.declared.Cym.{Cym}
 use Rattle.cym.specs.Cym as Cym
 use Rattle.cym.proofs.Kept.{CymIn, cym_in}
-use Rattle.sources.specs.declared.Sources.{Sources}
-use Rattle.sources.specs.Sources.{no_dual, no_tom, dual_turn, duals_of, tom_turn, toms_of, metal_of, sound_of}
+use Rattle.sources.specs.Sources.{Sources, no_dual, no_tom, dual_turn, duals_of, tom_turn, toms_of, metal_of, sound_of}
 
 -- ---- each voice by its own sample
 pub record DualBy (f : List ℕ) (d : ℕ) (old new : DualOsc) : Type 0 where

@@ -3,8 +3,7 @@ use Rattle.std.specs.Prelude.{ℕ, List, get_or, set, ℤ}
 use Rattle.frame.specs.Offsets.{dual_spec}
 use Rattle.lists.specs.Turns.{turns_of}
 use Rattle.dual.specs.BeforeR7.{sample_before}
-use Rattle.sources.specs.declared.Sources.{Sources}
-use Rattle.sources.specs.Sources.{no_dual, toms_of, metal_of}
+use Rattle.sources.specs.Sources.{Sources, no_dual, toms_of, metal_of}
 
 unfoldable pub dual_turn_before : List ℕ → ℕ → Sources → Sources
 dual_turn_before f d s =

@@ -1,5 +1,5 @@
 -- The sources of a step, from `Analog::frame`. Definitions only.
-use Rattle.std.specs.Prelude.{ℕ, false, List, [], get_or, set, ℤ, pos}
+use Rattle.std.specs.Prelude.{ℕ, false, List, [], get_or, set, ℤ, pos, Float}
 use Rattle.std.specs.Float.{nan}
 use Rattle.frame.specs.Offsets.{HAT_VOICE, CYM_VOICE, dual_spec, tom_spec}
 use Rattle.lists.specs.Turns.{turns_of}
@@ -9,7 +9,21 @@ use Rattle.cym.specs.Cym as Cym
 use Rattle.hat.specs.Hat as Hat
 use Rattle.dual.specs.declared.DualOsc.{DualOsc}
 use Rattle.tom.specs.declared.Tom.{Tom}
-use Rattle.sources.specs.declared.Sources.{Sources}
+use Rattle.cym.specs.declared.Cym.{Cym}
+use Rattle.hat.specs.declared.Hat.{Hat}
+use Rattle.wobble.specs.declared.Wobble.{Wobble}
+
+-- the sources and the random source as far as the step has gone, and the samples of the voices that have sounded
+pub record Sources : Type 0 where
+  pub duals : List DualOsc
+  pub hat : Hat
+  pub toms : List Tom
+  pub cym : Cym
+  pub w : Wobble
+  pub src : List Float
+
+abbrev pub sources : List DualOsc → Hat → List Tom → Cym → Wobble → List Float → Sources
+sources duals hat toms cym w src = record { duals = duals; hat = hat; toms = toms; cym = cym; w = w; src = src }
 
 -- what stands for an element past the end of a list, where no step looks
 abbrev pub no_dual : DualOsc

@@ -1,7 +1,6 @@
 use mathlib.Core.Path.{◌≡◌}
 use Rattle.lists.specs.Turns.{turns_of}
-use Rattle.bus.specs.declared.Bus.{Bus}
-use Rattle.bus.specs.Bus.{turn_of}
+use Rattle.bus.specs.Bus.{Bus, turn_of}
 use Rattle.bus.proofs.voices.Given as goal
 
 abbrev pub invariant-loop-v : goal.invariant-loop-v

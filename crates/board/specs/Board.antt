@@ -20,6 +20,7 @@ use Rattle.stereo.specs.declared.Mix.{Mix}
 use Rattle.board.specs.declared.Analog.{Analog}
 use Rattle.board.specs.declared.Inputs.{Inputs}
 use Rattle.board.specs.declared.Answer.{Answer}
+use Rattle.board.specs.declared.Heard.{Heard}
 use Rattle.board.specs.declared.refusals.Refusal.{Refusal}
 use Rattle.board.specs.declared.refusals.Refusal.TheVariants.{ShortFrame, ShortParameters, DacCount, DacRange, InputRange, BadOpening, WrongLength, NoBody, SlotTable, DestinationCount, VoiceNumber}
 
@@ -77,6 +78,10 @@ refusal_of f dac fx x =
     cond (ltb (length f) FRAME_BYTES) (Some ShortFrame)
     (cond (ltb (length fx) 24) (Some ShortParameters)
     (cond (eqb (length dac) 16) (cond (all_in_range dac) (cond (inputs_ok x) None (Some InputRange)) (Some DacRange)) (Some DacCount)))
+
+-- an answer: what a step gives, and the board that it leaves
+abbrev pub answer : Analog → Heard → Answer
+answer b h = record { refusal = h.refusal; rx = h.rx; mix = h.mix; board = b }
 
 -- "A refusal gives twelve zeros, mix 0 and 0, and the same board"
 unfoldable pub refused_of : Analog → Option Refusal → Answer

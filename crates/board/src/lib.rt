@@ -6,7 +6,7 @@ ghost use Rattle.std.specs.Result.{result_err};
 ghost use Rattle.frame.specs.Offsets.{FRAME_BYTES};
 ghost use Rattle.sources.specs.Sources.{sources, sound_of};
 ghost use Rattle.bus.specs.Bus.{InWordRange};
-ghost use Rattle.board.specs.Board.{fresh_of, number_of, inputs_of, in_range, all_in_range, input_ok, inputs_ok, refusal_of, refused_of, words_of, taken_of, voice_of, stepped_of, answer_of};
+ghost use Rattle.board.specs.Board.{fresh_of, number_of, inputs_of, in_range, all_in_range, input_ok, inputs_ok, refusal_of, refused_of, words_of, taken_of, voice_of, stepped_of, answer, answer_of};
 
 mod refusals;
 
@@ -82,7 +82,15 @@ pub fn number(refusal: Option<Refusal>) -> u32
     }
 }
 
-// A refusal stands beside the zero words, the zero mix and the same board that it is promised with; a `Result` would leave these out.
+// What a step gives beside the next board. A refusal stands beside the zero words and the zero mix that it is promised with; a `Result` would leave these out.
+#[derive(Clone, Copy)]
+pub struct Heard {
+    pub refusal: Option<Refusal>,
+    pub rx: [i32; 12],
+    pub mix: Mix,
+}
+
+// The same with the next board, which after a refusal is the same board.
 #[derive(Clone, Copy)]
 pub struct Answer {
     pub refusal: Option<Refusal>,
@@ -182,14 +190,13 @@ pub fn refusal(f: &[u8], dac: &[i32], fx: &[u8], x: Inputs) -> Option<Refusal>
 }
 
 #[tactic(auto, unfolding(crate::specs::Board::refused_of))]
-fn refused(board: Analog, refusal: Refusal) -> Answer
-    ensures { result ≡ refused_of board (Some refusal) }
+fn refused(refusal: Refusal) -> Heard
+    ensures { (b : Analog) → answer b result ≡ refused_of b (Some refusal) }
 {
-    Answer {
+    Heard {
         refusal: Some(refusal),
         rx: [0; 12],
         mix: Mix { l: 0.0, r: 0.0 },
-        board,
     }
 }
 
@@ -240,33 +247,46 @@ pub fn voice(mut board: Analog, call: &StepCall, v: usize) -> ChainOut
     bus::sample(board.chains[v], &call.frame, &call.dac, v, src[v])
 }
 
-// One sample, of a call that is not refused. Put into its two callers by the compiler, the board is copied once less on its way: 512 of a step's 14,241 instructions.
+// One sample, of a call that is not refused.
 #[inline(always)]
 #[tactic(auto, unfolding(crate::specs::Board::stepped_of))]
-pub fn stepped(mut board: Analog, call: &StepCall) -> Answer
-    ensures value { result ≡ stepped_of board call.now.frame call.now.dac call.now.fx call.now.inputs }
+pub fn stepped(board: &mut Analog, call: &StepCall) -> Heard
+    ensures value { answer board.new result ≡ stepped_of board.old call.now.frame call.now.dac call.now.fx call.now.inputs }
     ensures words { InWordRange result.rx }
 {
-    let src = sound(&mut board, call);
+    let src = sound(board, call);
     let BusOut { rx, mix } = bus::voices(&mut board.chains, &call.frame, &call.dac, src);
     let main = bus::master(&call.frame, &call.dac, mix, call.inputs.ext);
     let CompOut { comp, mix } = board.comp.process(&call.fx, main);
     board.comp = comp;
-    Answer {
+    Heard {
         refusal: None,
         rx: words(rx, call.inputs.audio, mix),
         mix,
-        board,
     }
 }
 
-// One sample, or the lowest refusal that applies, of what a caller has.
+// One sample, or the lowest refusal that applies, which leaves the board. The board is the caller's, changed in place: by value it would be copied
+// twice more on its way.
 #[tactic(auto, unfolding(crate::specs::Board::answer_of, crate::specs::Board::answered_if))]
-pub fn step(board: Analog, f: &[u8], dac: &[i32], fx: &[u8], x: Inputs) -> Answer
-    ensures { result ≡ answer_of board f.now dac.now fx.now x }
+pub fn advance(board: &mut Analog, f: &[u8], dac: &[i32], fx: &[u8], x: Inputs) -> Heard
+    ensures { answer board.new result ≡ answer_of board.old f.now dac.now fx.now x }
 {
     match StepCall::read(f, dac, fx, x) {
         Ok(call) => stepped(board, &call),
-        Err(refusal) => refused(board, refusal),
+        Err(refusal) => refused(refusal),
+    }
+}
+
+// The same, of a board that is given and answered.
+pub fn step(mut board: Analog, f: &[u8], dac: &[i32], fx: &[u8], x: Inputs) -> Answer
+    ensures { result ≡ answer_of board f.now dac.now fx.now x }
+{
+    let Heard { refusal, rx, mix } = advance(&mut board, f, dac, fx, x);
+    Answer {
+        refusal,
+        rx,
+        mix,
+        board,
     }
 }

@@ -1,5 +1,5 @@
 -- What a call from C is to the board. Definitions only.
-use Rattle.std.specs.Prelude.{ℕ, ◌≡◌, List, ℤ, Float}
+use Rattle.std.specs.Prelude.{ℕ, ◌≡◌, List, ℤ}
 use Rattle.board.specs.Board.{number_of, answer_of}
 use Rattle.board.specs.declared.Answer as Board
 use Rattle.board.specs.declared.Analog.{Analog}

@@ -9,7 +9,7 @@ ghost use Rattle.promise.specs.BeforeR7.{NonePlainSameAnswers};
 ghost use Rattle.promise.specs.BeforeR8.{StoringChangesNothing};
 ghost use Rattle.board_c.specs.Calls.{Step, ReceiveStep};
 
-use board::{Analog, Inputs};
+use board::{Analog, Heard, Inputs};
 use stereo::Mix;
 
 // A step's answer, with the number of its refusal, 0 for none: C has no Option, so this struct stands beside board's.
@@ -42,7 +42,7 @@ pub extern "C" fn rytm_fresh(seed: u32, ideal: bool) -> Analog
 // A step; C passes the slices and the four inputs one by one.
 #[unsafe(no_mangle)]
 pub extern "C" fn rytm_step(
-    board: Analog,
+    mut board: Analog,
     frame: &[u8],
     dac: &[i32],
     fx: &[u8],
@@ -54,12 +54,7 @@ pub extern "C" fn rytm_step(
     ensures { Step board frame.now dac.now fx.now (inputs_of audio_l audio_r ext_l ext_r) result }
 {
     let x = Inputs::new(audio_l, audio_r, ext_l, ext_r);
-    let board::Answer {
-        refusal,
-        rx,
-        mix,
-        board,
-    } = board::step(board, frame, dac, fx, x);
+    let Heard { refusal, rx, mix } = board::advance(&mut board, frame, dac, fx, x);
     Answer {
         number: board::number(refusal),
         rx,

@@ -5,7 +5,7 @@ ghost use Rattle.std.specs.Prelude.{◌≡◌, IfOk};
 ghost use Rattle.std.specs.Result.{result_err};
 ghost use Rattle.receive.specs.Receive.{receive_refusal_of, refused_of, Receives};
 
-use board::{Analog, Answer, Inputs, Refusal, StepCall};
+use board::{Analog, Heard, Inputs, Refusal, StepCall};
 use slots::SlotTable;
 use stereo::Mix;
 
@@ -60,7 +60,7 @@ fn refused(board: Analog, refusal: Refusal) -> Received
 
 // One sample whose words are copied, or the lowest refusal that applies, of what a caller has.
 pub fn receive(
-    board: Analog,
+    mut board: Analog,
     f: &[u8],
     dac: &[i32],
     fx: &[u8],
@@ -72,7 +72,7 @@ pub fn receive(
 {
     match Copying::read(f, dac, fx, x, slots, dest.len()) {
         Ok(Copying { call, slots }) => {
-            let Answer { rx, mix, board, .. } = board::stepped(board, &call);
+            let Heard { rx, mix, .. } = board::stepped(&mut board, &call);
             dest.copy_from_slice(&slots.copy(rx));
             Received {
                 refusal: None,

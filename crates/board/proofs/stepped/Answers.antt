@@ -1,5 +1,5 @@
 -- `board::stepped`'s receive words are in their range, as those that the voices leave are. Assumes nothing.
-use mathlib.Core.Path.{◌≡◌, sym, subst}
+use mathlib.Core.Path.{sym, subst}
 use Rattle.bus.specs.Bus.{Bus, InWordRange}
 use Rattle.bus.proofs.Kept.{voices_in}
 use Rattle.board.proofs.Range.{set_words}

@@ -7,6 +7,6 @@ use Rattle.board_c.proofs.rytm_step.Goals as goal
 pub returns : goal.returns
 unfolding numbered
 returns c = record {
-  is = rw (← c.new-x.ensures, ← c.step-refusal.ensures, ← c.number.ensures);
+  is = rw (← c.new-x.ensures, ← c.advance-refusal.ensures, ← c.number.ensures);
   call = step_answers _ _ _ _ _ _ (λ i. (c.type_inv.frame i).fits) refl;
 }

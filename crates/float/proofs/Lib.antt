@@ -5,6 +5,7 @@ pub mod Cast
 pub mod Eval
 pub mod Laws
 pub mod Zeros
+pub mod Order
 pub mod Remainder
 pub mod Never
 pub mod Numbers

@@ -45,30 +45,28 @@ pub fn signum(x: f32) -> f32
 }
 
 // The source's `min` and `max`, with the first argument kept where the two are equal; std's promise leaves open which zero is given. Two
-// functions: one for both would be told by a bool which it is.
-#[tactic(auto, unfolding(crate::specs::Floats::min_of))]
+// functions: one for both would be told by a bool which it is. Where the second argument is a constant, one comparison is left.
 pub fn min(a: f32, b: f32) -> f32
     ensures { result ≡ min_of a b }
 {
-    if b < a {
-        b
-    } else if a != a {
-        b
-    } else {
+    if a <= b {
         a
+    } else if b != b {
+        a
+    } else {
+        b
     }
 }
 
-#[tactic(auto, unfolding(crate::specs::Floats::max_of))]
 pub fn max(a: f32, b: f32) -> f32
     ensures { result ≡ max_of a b }
 {
-    if a < b {
-        b
-    } else if a != a {
-        b
-    } else {
+    if b <= a {
         a
+    } else if b != b {
+        a
+    } else {
+        b
     }
 }
 

@@ -1,7 +1,7 @@
--- The remainder by 1 as the code finds it: below 1 it is the number itself, below 2^23 the number less its whole part, and from there on nothing; and a number plus +0. Assumes nothing.
+-- The remainder by 1 as the code finds it: below 1 it is the number itself, below 2^23 the number less its whole part, and from there on nothing. Assumes nothing.
 use Rattle.std.proofs.Common.{◌≡◌, ℕ, suc, ◌+◌, ◌-◌, ◌*◌, ◌/◌, ◌%◌, ◌^◌, ◌<◌, ◌≤◌, min, Bool, true, false, not, T, ltb, ℤ, pos, negsuc, sym, refl, ap, ◌∙◌, subst, le_refl, mul-le-mul_right, mod-lt, mod-eq_of_lt, mul_assoc, mul_comm, div-lt_iff_lt-mul, mul-pos, zero-mul, mul-one, mul_right_comm, arith, lit<, pow_pos, ltb-false, ltb-true, le-ltb}
 use native.Mathlib.Nat.{mod-one, sub_self, mod-add-div', add-mul-mod_self_right, pow-succ'}
-use lib.Ieee.{Float, binary32, nan, inf, fin, low, up, down, round, sum, add, sub, neg, rem, lt, eq, fits, of_bits, of_int, to_signed}
+use lib.Ieee.{Float, binary32, nan, inf, fin, low, up, down, round, sum, add, sub, neg, rem, lt, fits, of_int, to_signed}
 use lib.Ieee.Back.{round_whole}
 use lib.Ieee.Exact.{HasValue}
 use lib.Ieee.Fits.{down_pos, rem-fits}
@@ -12,12 +12,6 @@ use Rattle.line.proofs.Exact.{value_unique}
 use Rattle.line.proofs.Mono.{Good, good_is, units_of, neg_round}
 use Rattle.line.proofs.Rem.{one, nought, rem_is, fits_parts}
 use Rattle.float.proofs.Never.{no}
-use Rattle.float.proofs.Zeros.{plus_whole, plus_zero}
-
--- ---- adding +0 changes nothing but -0
-pub plus_nought : (m : ℕ) (e : ℤ) → T (fits binary32 (fin false m e)) → add binary32 (fin false m e) nought ≡ fin false m e
-unfolding eq fits of_bits
-plus_nought m e t = plus_zero (fin false m e) nought t (plus_whole m e) tt tt
 
 -- ---- below 1: the number itself
 own : (s : Bool) (m : ℕ) (e : ℤ) → T (fits binary32 (fin s m e)) → m * up e < down e → fin s m e ≡ rem binary32 (fin s m e) one

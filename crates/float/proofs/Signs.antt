@@ -1,25 +1,18 @@
--- abs and signum by the tests that the code makes: below zero, above it, equal to it, and else not a number. Assumes nothing.
-use Rattle.std.proofs.Common.{◌≡◌, ℕ, zero, suc, ◌+◌, ◌*◌, ◌<◌, Bool, true, false, ◌&&◌, ◌||◌, T, eqb, ℤ, pos, negsuc, sym, refl, ap, ◌∙◌, mul-pos, arith, eqb→eq, ltb-false, ltb-true, eq-eqb, eqb-true}
+-- abs as the greater of a number and zero less it; signum by the tests that the code makes: below zero, above it, equal to it, and else not a number. Assumes nothing.
+use Rattle.std.proofs.Common.{◌≡◌, ℕ, zero, suc, ◌+◌, ◌*◌, ◌<◌, Bool, true, false, not, ◌&&◌, ◌||◌, T, eqb, ℤ, pos, negsuc, sym, refl, ap, ◌∙◌, mul-pos, arith, eqb→eq, ltb-false, ltb-true, eq-eqb, eqb-true}
 use mathlib.Core.Bool.{or-true}
 use lib.Pow.{pow-lt}
-use lib.Ieee.{Float, binary32, nan, inf, fin, up, down, lt, eq, neg, add, div, fits}
-use lib.Ieee.Fits.{up_pos}
+use lib.Ieee.{Float, binary32, nan, inf, fin, up, down, lt, eq, neg, add, sub, div, fits, of_bits}
+use lib.Ieee.Fits.{neg-fits, up_pos, down_pos}
 use Rattle.float.specs.Floats.{abs_of, signum_of}
-use Rattle.float.proofs.Remainder.{plus_nought}
+use Rattle.float.proofs.Laws.{minus_zero}
+use Rattle.float.proofs.Zeros.{plus_whole, zero_plus}
 use Rattle.float.proofs.Never.{no}
 
 abbrev pub zero+ : Float
 zero+ = fin false 0 (pos 0)
 
 -- ---- the size
-pub abs_below : (x : Float) → lt x zero+ ≡ true → neg x ≡ abs_of x
-unfolding lt neg abs_of
-abs_below nan h = no h
-abs_below (inf true) h = refl
-abs_below (inf false) h = no h
-abs_below (fin true m e) h = refl
-abs_below (fin false m e) h = let k = ltb-true (m * up e * 1) (0 * down e) h in absurd (omega arith)
-
 -- a zero is written in one way
 flat : (e : ℤ) → up e * down e ≡ 1 → e ≡ pos 0
 flat (pos zero) h = refl
@@ -34,17 +27,30 @@ and_left false b e = e
 big : (m : ℕ) (e : ℤ) → 0 < suc m * up e
 big m e = mul-pos (omega arith) (up_pos e)
 
--- what is not below zero, plus +0, is its size
-pub abs_plus : (x : Float) → T (fits binary32 x) → lt x zero+ ≡ false → add binary32 x zero+ ≡ abs_of x
-unfolding lt add abs_of fits
-abs_plus nan t h = refl
-abs_plus (inf true) t h = no (sym h)
-abs_plus (inf false) t h = refl
-abs_plus (fin false m e) t h = plus_nought m e t
-abs_plus (fin true zero e) t h = rw (flat e (eqb→eq (up e * down e) 1 t)) refl
-abs_plus (fin true (suc m) e) t h =
-    let b = big m e in
-    let q = ltb-false 0 (suc m * up e * 1 + 0 * down e) h in
+-- zero less a number other than +0 is that number with its sign turned
+from_zero : (s : Bool) (m : ℕ) (e : ℤ) → T (fits binary32 (fin s m e)) → T (not (minus_zero (fin (not s) m e))) → sub binary32 zero+ (fin s m e) ≡ fin (not s) m e
+unfolding sub neg eq fits of_bits
+from_zero s m e t h = zero_plus zero+ (fin (not s) m e) tt tt (neg-fits binary32 (fin s m e) t) h
+
+-- so the number itself is its size where zero less it lies below it, and zero less it elsewhere
+pub abs_above : (x : Float) → T (fits binary32 x) → lt (sub binary32 zero+ x) x ≡ true → x ≡ abs_of x
+unfolding lt sub add neg abs_of
+abs_above nan t h = refl
+abs_above (inf true) t h = no h
+abs_above (inf false) t h = refl
+abs_above (fin false m e) t h = refl
+abs_above (fin true m e) t h = no (ap (λ (z : Float). lt z (fin true m e)) (sym (from_zero true m e t (plus_whole m e))) ∙ h)
+
+pub abs_from : (x : Float) → T (fits binary32 x) → lt (sub binary32 zero+ x) x ≡ false → sub binary32 zero+ x ≡ abs_of x
+unfolding lt sub add neg abs_of fits
+abs_from nan t h = refl
+abs_from (inf true) t h = refl
+abs_from (inf false) t h = no (sym h)
+abs_from (fin true m e) t h = from_zero true m e t (plus_whole m e)
+abs_from (fin false zero e) t h = rw (flat e (eqb→eq (up e * down e) 1 t)) refl
+abs_from (fin false (suc m) e) t h =
+    let p = mul-pos (big m e) (down_pos e) in
+    let q = ltb-false 0 (suc m * up e * down e + suc m * up e * down e) (ap (λ (z : Float). lt z (fin false (suc m) e)) (sym (from_zero false (suc m) e t tt)) ∙ h) in
     absurd (omega arith)
 
 -- two zeros are level

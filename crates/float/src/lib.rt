@@ -20,11 +20,12 @@ pub const LEVELS_PER_6DB: f32 = 16.0;
 // The functions of this file are Rust's by definitions that say what comes of every value, NaN and zeros too. std's `abs`, `signum` and `clamp`
 // promise other words of them (`clamp` only where its ends are in order), and laws of all crates above speak of these.
 
-// Adding +0 turns -0 into +0 and changes nothing else.
+// 0 less either zero is +0, and less any other number that with its sign turned: the greater of the two is the size.
 pub fn abs(x: f32) -> f32
     ensures { result ≡ abs_of x }
 {
-    if x < 0.0 { -x } else { x + 0.0 }
+    let n = 0.0 - x;
+    if n < x { x } else { n }
 }
 
 // The sign of a zero is that of one over it.

@@ -5,3 +5,4 @@ pub mod Arrive
 pub mod Run
 pub mod Settle
 pub mod States
+pub mod Alike

@@ -1,9 +1,10 @@
 -- What a step does to a level: first a move is read off the state and the record's bytes, then the level follows from the move. Definitions only.
 use Rattle.std.specs.Prelude.{ℕ, zero, suc, Bool, true, false, not, ◌&&◌, ◌||◌, cond, List, get_or, eqb, Float}
+use Rattle.std.specs.Bool.{beq}
 use Rattle.std.specs.Float.{binary32}
 use Rattle.std.specs.Float.Ieee.{sub, lt}
 use Rattle.float.specs.Consts.{k_m128, k0p001}
-use Rattle.float.specs.Floats.{abs_of}
+use Rattle.float.specs.Floats.{abs_of, same_bits}
 use Rattle.envelope.specs.declared.Record.{Record}
 use Rattle.envelope.specs.declared.Env.{Env}
 use Rattle.envelope.specs.declared.Key.{Key}
@@ -75,6 +76,10 @@ key_of r = record { start = get_or r 2 0; target = get_or r 3 0; rate = rate_of 
 -- no change of these
 unfoldable pub same_key : Key → Key → Bool
 same_key a b = eqb a.start b.start && eqb a.target b.target && eqb a.rate b.rate
+
+-- the same state, its level to the bit
+unfoldable pub same_seg : SegEnv → SegEnv → Bool
+same_seg a b = same_key a.key b.key && same_bits a.level b.level && beq a.hold b.hold && beq a.cmd b.cmd
 
 -- amp: the command after a step without it; filter: a change of bytes 2, 3 or of the 20 bits, with mode 9 or F
 unfoldable pub seg_starts : Bool → List ℕ → SegEnv → Bool

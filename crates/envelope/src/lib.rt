@@ -3,7 +3,7 @@
 
 ghost use Rattle.std.specs.Prelude.{◌≡◌, Bool, true, false, not, ◌&&◌, ◌||◌, ◌+◌, ◌*◌, ◌/◌, ◌≤◌, ◌<◌};
 ghost use Rattle.envelope.specs.Record.{level_of, exp_of, mant_of, mode_of, rate_of, step_of, record_of, tick_of};
-ghost use Rattle.envelope.specs.Moves.{settled_by, starts_of, alike, dual_of, hit_of, key_of, same_key, hold_of, moved_by, seg_of};
+ghost use Rattle.envelope.specs.Moves.{settled_by, starts_of, alike, dual_of, hit_of, key_of, same_key, same_seg, hold_of, moved_by, seg_of};
 ghost use Rattle.envelope.specs.Gain.{loudness_of, gain_of};
 
 // One 8-byte record. Its first word is a command: not zero starts the segment.
@@ -122,7 +122,7 @@ fn settled(rec: Record, restarted: bool, held: bool, parked: bool, level: f32) -
 // Whether two records are the same bytes. `a == b` compares byte by byte with a branch for each: 510 of a step's 13,500
 // instructions more, where a step just keeps to its 1.3 times the Rust's time.
 #[tactic(auto, unfolding(crate::specs::Moves::alike))]
-fn same(a: [u8; 8], b: [u8; 8]) -> bool
+pub fn same(a: [u8; 8], b: [u8; 8]) -> bool
     ensures { result ≡ alike 8 a b }
 {
     let mut ok = true;
@@ -212,6 +212,17 @@ pub struct SegEnv {
 }
 
 impl SegEnv {
+    // Whether two envelopes stand the same, the level to the bit: zeros of two signs are two levels.
+    #[tactic(auto, unfolding(crate::specs::Moves::same_seg, crate::specs::Moves::same_key))]
+    pub fn same(self, e: SegEnv) -> bool
+        ensures { result ≡ same_seg self e }
+    {
+        let key = (self.key.start == e.key.start)
+            & (self.key.target == e.key.target)
+            & (self.key.rate == e.key.rate);
+        key & float::same_bits(self.level, e.level) & (self.hold == e.hold) & (self.cmd == e.cmd)
+    }
+
     // After a record with this key and mode, which restarts it or not; `cmd` is what it keeps of the start command.
     #[tactic(auto, unfolding(crate::specs::Moves::moved_by))]
     fn moved(self, rec: Record, key: Key, mode: u8, restarted: bool, cmd: bool) -> SegEnv

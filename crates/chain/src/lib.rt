@@ -1,8 +1,9 @@
 // A voice's own chain after its source: overdrive, multimode filter under its envelope, amp.
 #![tactic(auto)]
 
-ghost use Rattle.std.specs.Prelude.{◌≡◌, ◌<◌};
-ghost use Rattle.chain.specs.Chain.{EachItsOwn, Stored, Traced, chain_new, drive_of, cutoff_of, limited_of, res_of, coefs_of, stored_of, multimode_of, lp1_of, pick_of, finite_or, settings_of, filter_of, process_of};
+ghost use Rattle.std.specs.Prelude.{◌≡◌, true, ◌<◌};
+ghost use Rattle.envelope.specs.Moves.{seg_of};
+ghost use Rattle.chain.specs.Chain.{EachItsOwn, Stored, Traced, chain_new, drive_of, cutoff_of, limited_of, res_of, coefs_of, stored_of, multimode_of, lp1_of, pick_of, finite_or, settings_of, filter_of, gain_of, process_of};
 
 use envelope::SegEnv;
 use frame::{FltType, Frame};
@@ -234,6 +235,35 @@ fn run_filter(c: Chain, kind: FltType, q: Coefs, x: f32) -> Filtered
     replace(s, lp1, pick(kind, s, lp1, x, q.k, q.res))
 }
 
+// An amp after its record, and its level as a gain.
+#[derive(Clone, Copy)]
+struct AmpOut {
+    amp: SegEnv,
+    gain: f32,
+}
+
+#[tactic(auto, unfolding(crate::specs::Chain::gain_of))]
+fn run_amp(amp: SegEnv, r: [u8; 8]) -> AmpOut
+    ensures { (result.amp ≡ seg_of true r amp) × (result.gain ≡ gain_of (seg_of true r amp).level) }
+{
+    let after = amp.amp(r);
+    AmpOut {
+        amp: after,
+        gain: envelope::gain(after.level, 0.0),
+    }
+}
+
+// The right amp's. Where it stands as the left one and its record has the same bytes, it comes to the same, and is not worked out again.
+fn run_right(amp: SegEnv, ra: [u8; 8], amp_r: SegEnv, ra_r: [u8; 8], left: AmpOut) -> AmpOut
+    requires { (left.amp ≡ seg_of true ra amp) × (left.gain ≡ gain_of (seg_of true ra amp).level) }
+    ensures { (result.amp ≡ seg_of true ra_r amp_r) × (result.gain ≡ gain_of (seg_of true ra_r amp_r).level) }
+{
+    if envelope::same(ra_r, ra) & amp_r.same(amp) {
+        return left;
+    }
+    run_amp(amp_r, ra_r)
+}
+
 impl Chain {
     #[tactic(auto, unfolding(crate::specs::Chain::chain_new))]
     pub fn new() -> Chain
@@ -274,21 +304,21 @@ impl Chain {
         let fc = cutoff(i.frq, i.depth, flt.level);
         let coefs = stored(self.coefs, fc, resonance(i.res));
         let s = run_filter(self, i.kind, coefs, overdrive(i.ovr, x));
-        let amp = self.amp.amp(i.ra);
-        let amp_r = self.amp_r.amp(i.ra_r);
+        let left = run_amp(self.amp, i.ra);
+        let right = run_right(self.amp, i.ra, self.amp_r, i.ra_r, left);
         ChainOut {
             chain: Chain {
-                amp,
+                amp: left.amp,
                 flt,
                 low: s.low,
                 band: s.band,
                 lp1: s.lp1,
-                amp_r,
+                amp_r: right.amp,
                 coefs,
             },
             y: Mix {
-                l: s.y * envelope::gain(amp.level, 0.0),
-                r: s.y * envelope::gain(amp_r.level, 0.0),
+                l: s.y * left.gain,
+                r: s.y * right.gain,
             },
             filtered: s.y,
             cutoff: limited(fc),

@@ -258,7 +258,7 @@ fn run_right(amp: SegEnv, ra: [u8; 8], amp_r: SegEnv, ra_r: [u8; 8], left: AmpOu
     requires { (left.amp ≡ seg_of true ra amp) × (left.gain ≡ gain_of (seg_of true ra amp).level) }
     ensures { (result.amp ≡ seg_of true ra_r amp_r) × (result.gain ≡ gain_of (seg_of true ra_r amp_r).level) }
 {
-    if envelope::same(ra_r, ra) & amp_r.same(amp) {
+    if envelope::same(ra_r, ra) & amp_r.same_amp(amp) {
         return left;
     }
     run_amp(amp_r, ra_r)

@@ -77,9 +77,9 @@ key_of r = record { start = get_or r 2 0; target = get_or r 3 0; rate = rate_of 
 unfoldable pub same_key : Key → Key → Bool
 same_key a b = eqb a.start b.start && eqb a.target b.target && eqb a.rate b.rate
 
--- the same state, its level to the bit
-unfoldable pub same_seg : SegEnv → SegEnv → Bool
-same_seg a b = same_key a.key b.key && same_bits a.level b.level && beq a.hold b.hold && beq a.cmd b.cmd
+-- the same in all that an amp goes by, the level to the bit
+unfoldable pub same_amp : SegEnv → SegEnv → Bool
+same_amp a b = same_bits a.level b.level && beq a.hold b.hold && beq a.cmd b.cmd
 
 -- amp: the command after a step without it; filter: a change of bytes 2, 3 or of the 20 bits, with mode 9 or F
 unfoldable pub seg_starts : Bool → List ℕ → SegEnv → Bool

@@ -3,7 +3,7 @@
 
 ghost use Rattle.std.specs.Prelude.{◌≡◌, Bool, true, false, not, ◌&&◌, ◌||◌, ◌+◌, ◌*◌, ◌/◌, ◌≤◌, ◌<◌};
 ghost use Rattle.envelope.specs.Record.{level_of, exp_of, mant_of, mode_of, rate_of, step_of, record_of, tick_of};
-ghost use Rattle.envelope.specs.Moves.{settled_by, starts_of, alike, dual_of, hit_of, key_of, same_key, same_seg, hold_of, moved_by, seg_of};
+ghost use Rattle.envelope.specs.Moves.{settled_by, starts_of, alike, dual_of, hit_of, key_of, same_key, same_amp, hold_of, moved_by, seg_of};
 ghost use Rattle.envelope.specs.Gain.{loudness_of, gain_of};
 
 // One 8-byte record. Its first word is a command: not zero starts the segment.
@@ -212,15 +212,12 @@ pub struct SegEnv {
 }
 
 impl SegEnv {
-    // Whether two envelopes stand the same, the level to the bit: zeros of two signs are two levels.
-    #[tactic(auto, unfolding(crate::specs::Moves::same_seg, crate::specs::Moves::same_key))]
-    pub fn same(self, e: SegEnv) -> bool
-        ensures { result ≡ same_seg self e }
+    // Whether two amps stand the same, the level to the bit: zeros of two signs are two levels. An amp does not look at its key.
+    #[tactic(auto, unfolding(crate::specs::Moves::same_amp))]
+    pub fn same_amp(self, e: SegEnv) -> bool
+        ensures { result ≡ same_amp self e }
     {
-        let key = (self.key.start == e.key.start)
-            & (self.key.target == e.key.target)
-            & (self.key.rate == e.key.rate);
-        key & float::same_bits(self.level, e.level) & (self.hold == e.hold) & (self.cmd == e.cmd)
+        float::same_bits(self.level, e.level) & (self.hold == e.hold) & (self.cmd == e.cmd)
     }
 
     // After a record with this key and mode, which restarts it or not; `cmd` is what it keeps of the start command.

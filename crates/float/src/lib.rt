@@ -84,12 +84,16 @@ pub fn clamp(x: f32, lo: f32, hi: f32) -> f32
     }
 }
 
-// `a.to_bits() == b.to_bits()`, where two values that are no numbers have the same: std's `to_bits` promises nothing of them.
+// `a.to_bits() == b.to_bits()`, where two values that are no numbers have the same: std's `to_bits` promises nothing of them. Unequal numbers have
+// unlike bits, so that one comparison is enough where the two are alike, and three where not.
 #[tactic(auto, unfolding(crate::specs::Floats::same_bits))]
 pub fn same_bits(a: f32, b: f32) -> bool
     ensures { result ≡ same_bits a b }
 {
-    std::num::f32_to_bits_with_nan(a) == std::num::f32_to_bits_with_nan(b)
+    if a == b {
+        return a.to_bits() == b.to_bits();
+    }
+    (a != a) & (b != b)
 }
 
 // By std's `is_finite`, or a NaN found by `is_nan` above, the proof did not close: the definitions compare.

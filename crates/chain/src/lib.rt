@@ -300,12 +300,12 @@ impl Chain {
         ensures traced { Traced result }
     {
         let i = Settings::read(f, v);
+        let left = run_amp(self.amp, i.ra);
+        let right = run_right(self.amp, i.ra, self.amp_r, i.ra_r, left);
         let flt = self.flt.filter(i.rf);
         let fc = cutoff(i.frq, i.depth, flt.level);
         let coefs = stored(self.coefs, fc, resonance(i.res));
         let s = run_filter(self, i.kind, coefs, overdrive(i.ovr, x));
-        let left = run_amp(self.amp, i.ra);
-        let right = run_right(self.amp, i.ra, self.amp_r, i.ra_r, left);
         ChainOut {
             chain: Chain {
                 amp: left.amp,

@@ -4,7 +4,6 @@
 
 use std::io;
 use std::num::f32_to_bits_with_nan;
-use text::Words;
 
 // The lines of all steps; of a refused recording none.
 fn play(rt: &impl Print, rec: &[u8]) -> io::Result<()> {
@@ -14,10 +13,13 @@ fn play(rt: &impl Print, rec: &[u8]) -> io::Result<()> {
     for _ in 0..playing.steps {
         let played = recording::next(playing, rec);
         let number = board::number(played.refusal);
-        let words = Words(played.rx);
+        let mut words = [0; 144];
+        let end = text::words(&mut words, 0, played.rx);
         let left = f32_to_bits_with_nan(played.mix.l);
         let right = f32_to_bits_with_nan(played.mix.r);
-        println!(rt; "{number}{words} {left:08x} {right:08x}")?;
+        print!(rt; "{number}")?;
+        rt.write_all(&words[..end])?;
+        println!(rt; " {left:08x} {right:08x}")?;
         playing = played.playing;
     }
     Ok(())

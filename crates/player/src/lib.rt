@@ -1,9 +1,9 @@
 // The text of a replay, and the reading and writing around it.
 #![tactic(auto)]
 
-ghost use Rattle.std.specs.Prelude.{◌≡◌, List, length, ltb, take, Some, IfOk, OnOk, IfSome, ◌≤◌, ◌<◌};
+ghost use Rattle.std.specs.Prelude.{◌≡◌, ◌++◌, ◌+◌, List, length, ltb, take, Some, IfOk, OnOk, IfSome, ◌≤◌, ◌<◌};
+ghost use Rattle.arrayvec.specs.ArrayVec.{array_vec_len};
 ghost use Rattle.std.specs.Io.KnownBytes.{Appends, Consumes, IsAtEnd, Keeps};
-ghost use Rattle.board.specs.Board.{number_of};
 ghost use Rattle.player.specs.Text.{step_line, lines_of, refusal_line, long_of, opened_of, opened_text, printed_of};
 ghost use Rattle.player.specs.Failure.{read_of, message_of};
 
@@ -12,7 +12,6 @@ use board::Refusal;
 use recording::Playing;
 use std::io::{Read, Write};
 use std::{fmt, io};
-use text::Words;
 
 // ---- what can fail
 
@@ -65,24 +64,42 @@ impl From<io::Error> for Failure {
 
 // ---- the text
 
-// A step's line: the step's number, the answer's number, the words. It has at most 166 bytes.
-#[derive(Clone, Copy)]
-struct Line {
-    step: u32,
-    refusal: Option<Refusal>,
-    words: Words,
+// The bytes of a line, at most; the lines of a page; and the bytes that a page has room for.
+const LINE: usize = 176;
+
+const LINES: u32 = 93;
+
+const PAGE: usize = 16384;
+
+// A step's line: the step's number, the answer's number, the words.
+fn step_line(out: &mut [u8], step: u32, number: u32, words: [i32; 12]) -> usize
+    requires { LINE ≤ length out.old }
+    ensures upper_bound { result ≤ LINE }
+    ensures out_after { take result out.new ≡ step_line step number words }
+{
+    let end = text::digits(out, 0, step, 10);
+    let end = text::put(out, end, b' ');
+    let end = text::digits(out, end, number, 10);
+    let end = text::words(out, end, words);
+    text::put(out, end, b'\n')
 }
 
-impl fmt::Display for Line {
-    ghost output = { λ line. Some (step_line line.step (number_of line.refusal) line.words.0) };
+// A refusal's number, alone.
+fn refusal_line(out: &mut [u8], number: u32) -> usize
+    requires { 11 ≤ length out.old }
+    ensures upper_bound { result ≤ length out.old }
+    ensures out_after { take result out.new ≡ refusal_line number }
+{
+    let end = text::digits(out, 0, number, 10);
+    text::put(out, end, b'\n')
+}
 
-    #[tactic(auto, unfolding(crate::specs::Text::step_line), using(text::proofs::Joined::decimal_same))]
-    fn fmt<W: fmt::Write>(&self, f: &mut fmt::Formatter<W>) -> fmt::Result {
-        let step = self.step;
-        let number = board::number(self.refusal);
-        let words = self.words;
-        writeln!(f, "{step} {number}{words}")
-    }
+// A line more in a page that has room for it.
+fn append(page: &mut ArrayVec<u8, PAGE>, line: &[u8])
+    requires { array_vec_len page.old + length line.now ≤ PAGE }
+    ensures { page.new.items ≡ page.old.items ++ line.now }
+{
+    let _fits = page.try_extend_from_slice(line);
 }
 
 // What an input of more than 65,536 bytes is refused by.
@@ -108,40 +125,37 @@ fn open(rec: &[u8], more: usize) -> Result<Playing, Refusal>
     recording::open(rec)
 }
 
-// The lines of all steps. A page keeps them until it has no room for another.
+// The lines of all steps, page by page.
 fn write_steps<W: Write>(start: Playing, rec: &[u8], out: &mut W) -> io::Result<()>
     ensures { OnOk result (Appends (W.contents out.old) (W.contents out.new) (lines_of start.steps start rec.now)) }
 {
     let mut playing = start;
-    let mut page = ArrayVec::<u8, 16384>::new();
-    for _ in 0..start.steps {
-        if page.remaining_capacity() < 166 {
+    let mut page = ArrayVec::<u8, PAGE>::new();
+    for step in 0..start.steps {
+        let at = playing.at;
+        let played = recording::next(playing, rec);
+        let mut line = [0; LINE];
+        let end = step_line(&mut line, at, board::number(played.refusal), played.rx);
+        append(&mut page, &line[..end]);
+        if step % LINES == LINES - 1 {
             out.write_all(page.as_slice())?;
             page.clear();
         }
-        let step = playing.at;
-        let played = recording::next(playing, rec);
-        let line = Line {
-            step,
-            refusal: played.refusal,
-            words: Words(played.rx),
-        };
-        write!(page, "{line}")?;
         playing = played.playing;
     }
     out.write_all(page.as_slice())
 }
 
 // The text of an input that holds this recording, or that is refused.
-#[tactic(auto, unfolding(crate::specs::Text::refusal_line), using(text::proofs::Joined::decimal_same))]
 fn write_text<W: Write>(opened: Result<Playing, Refusal>, rec: &[u8], out: &mut W) -> io::Result<()>
     ensures { OnOk result (Appends (W.contents out.old) (W.contents out.new) (opened_text rec.now opened)) }
 {
     match opened {
         Ok(playing) => write_steps(playing, rec, out),
         Err(refusal) => {
-            let number = board::number(Some(refusal));
-            writeln!(out, "{number}")
+            let mut line = [0; 11];
+            let end = refusal_line(&mut line, board::number(Some(refusal)));
+            out.write_all(&line[..end])
         }
     }
 }
@@ -183,7 +197,7 @@ fn replay<R: Read, W: Write>(input: &mut R, out: &mut W) -> Result<(), Failure>
     Ok(())
 }
 
-// Reads a recording to its end, and writes its text; or says on `errors` why that cannot be done. A message that cannot be written is lost.
+// Reads a recording to its end, and writes its text; or says on `errors` why that cannot be done, by one write. A message that cannot be written is lost.
 pub fn play<R: Read, W: Write, E: Write>(
     input: &mut R,
     out: &mut W,
@@ -194,7 +208,9 @@ pub fn play<R: Read, W: Write, E: Write>(
 {
     let played = replay(input, out);
     if let Err(failure) = played {
-        let _ = writeln!(errors, "replay: {failure}");
+        let mut message = ArrayVec::<u8, 80>::new();
+        let _ = writeln!(message, "replay: {failure}");
+        let _ = errors.write_all(message.as_slice());
     }
     played
 }

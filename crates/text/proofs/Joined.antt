@@ -1,11 +1,22 @@
--- What std's printing writes of a number and of a word is `decimal_of` and `signed_of` of it; and the words one after the other. Assumes nothing.
-use Rattle.std.proofs.Common.{◌≡◌, true, refl, nat_abs, ltb-true, sym, ap, ℕ, suc, ◌+◌, ◌^◌, ◌<◌, List, [], ◌∷◌, ◌++◌, append_assoc, append-nil, length, get_or, take, ℤ, pos, negsuc, arith, rules}
+-- A number's digits one by one, its sign, and words one after the other; and std's digits of a number are `decimal_of` it. Assumes nothing.
+use Rattle.std.proofs.Common.{◌≡◌, true, false, true≢false, refl, nat_abs, ltb-true, sym, ap, ◌∙◌, ℕ, zero, suc, ◌+◌, ◌-◌, ◌/◌, ◌%◌, ◌^◌, ◌≤◌, ◌<◌, List, [], ◌∷◌, ◌++◌, append_assoc, length, get_or, drop, ℤ, pos, negsuc, arith}
+use native.Mathlib.Numerals.{add-one, sub-one}
 use borrow.Author.Tests.{lt-ltb, le-ltb}
-use lib.Signed.{mag, lt_z}
-use Rattle.std.specs.Fmt.{decimal, signed_decimal}
-use Rattle.std.proofs.lemmas.List.{take_more}
+use lib.Seq.{drop-cons}
+use lib.Signed.{lt_z}
+use Rattle.std.specs.Fmt.{decimal}
 use Rattle.std.proofs.lemmas.Fmt.{AppendsLastDigit, decimal_from_appends, length-decimal-le}
 use Rattle.text.specs.Text.{digits_of, decimal_of, signed_of, words_of}
+
+pub one_digit : (k n : ℕ) → (k ≡ 0 → ⊥) → n < 10 → digits_of k n ≡ (48 + n) ∷ []
+unfolding digits_of
+one_digit zero n f h = absurd (f refl)
+one_digit (suc k) n f h = rw (lt-ltb n 10 h)
+
+pub more_digits : (k n : ℕ) → (k ≡ 0 → ⊥) → 10 ≤ n → digits_of k n ≡ digits_of (k - 1) (n / 10) ++ ((48 + n % 10) ∷ [])
+unfolding digits_of
+more_digits zero n f h = absurd (f refl)
+more_digits (suc k) n f h = rw (sub-one, le-ltb n 10 h)
 
 appends : AppendsLastDigit digits_of
 unfolding digits_of
@@ -15,22 +26,19 @@ appends = record { one = λ k n h. rw (lt-ltb n 10 h); more = λ k n h. rw (le-l
 pub decimal_same : (n : ℕ) → n < 2 ^ 32 → decimal n ≡ decimal_of n
 decimal_same n h = sym (decimal_from_appends digits_of appends 10 n (omega arith) (length-decimal-le 10 n (omega arith) (omega arith) (omega arith)))
 
--- and every word
-signed_same : (w : ℤ) → mag w < 2 ^ 31 → signed_decimal w ≡ signed_of w
-unfolding signed_of
-signed_same (pos n) h = decimal_same n (omega (arith, h))
-signed_same (negsuc n) h = ap (λ l. 45 ∷ l) (decimal_same (suc n) (omega (arith, h)))
-
-words_more : (xs : List ℤ) (w : ℤ) → words_of (xs ++ (w ∷ [])) ≡ words_of xs ++ (32 ∷ signed_of w)
-unfolding words_of
-words_more [] w = search (rules, append-nil)
-words_more (x ∷ xs) w = let rest = words_more xs w in search (rules, append_assoc)
-
--- the words before word i, and then a blank and that word as std prints it
-pub words_written : (xs : List ℤ) (i : ℕ) → i < length xs → mag (get_or xs i (pos 0)) < 2 ^ 31 → words_of (take i xs) ++ (32 ∷ signed_decimal (get_or xs i (pos 0))) ≡ words_of (take (i + 1) xs)
-words_written xs i h m = let w = get_or xs i (pos 0) in search (rules, signed_same w m, words_more (take i xs) w, take_more xs i (pos 0) h)
-
 pub with_sign_lem : (w : ℤ) → lt_z w (pos 0) ≡ true → signed_of w ≡ 45 ∷ decimal_of (nat_abs w)
 unfolding signed_of
 with_sign_lem (pos n) h = absurd (omega (arith, ltb-true n 0 h))
 with_sign_lem (negsuc n) h = refl
+
+pub without_sign : (w : ℤ) → lt_z w (pos 0) ≡ false → signed_of w ≡ decimal_of (nat_abs w)
+unfolding signed_of
+without_sign (pos n) h = refl
+without_sign (negsuc n) h = absurd (true≢false h)
+
+-- x with the words from i on is p: so is z, which has word i after x, with the words after it
+pub one_word : (x y z p : List ℕ) (rx : List ℤ) (i : ℕ) (w : ℤ) → i < length rx → w ≡ get_or rx i (pos 0) → y ≡ x ++ (32 ∷ []) → z ≡ y ++ signed_of w →
+    x ++ words_of (drop i rx) ≡ p → z ++ words_of (drop (i + 1) rx) ≡ p
+unfolding words_of
+one_word x y z p rx i w h e u v k =
+    rw (add-one, v, u, append_assoc, append_assoc, e) (ap (λ (l : List ℤ). x ++ words_of l) (sym (drop-cons rx i (pos 0) h)) ∙ k)

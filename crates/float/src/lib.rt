@@ -160,9 +160,13 @@ pub fn from_u32(n: u32) -> f32
     std::num::nearest_u32_to_f32(n)
 }
 
+// By the plain cast where it loses nothing, as of each DAC word: the library's conversion by halves takes twice its time.
 pub fn from_i32(n: i32) -> f32
     ensures { result ≡ of_int binary32 n }
 {
+    if (-16777216 <= n) & (n <= 16777216) {
+        return n as f32;
+    }
     std::num::nearest_i32_to_f32(n)
 }
 

@@ -78,7 +78,7 @@ impl Tom {
         if d == 0 {
             return Drawn {
                 x: Tom {
-                    quiet: self.quiet.saturating_add(1),
+                    quiet: float::saturating_add(self.quiet, 1),
                     ..self
                 },
                 w,

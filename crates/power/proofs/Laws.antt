@@ -88,6 +88,11 @@ module _ (lo hi : Float) where
       (exp_mono a t al ah h.from tl th) (exp_mono t b tl th h.upto bl bh)
 
 -- ---- the ranges of the board
+-- from -1 to 1: from 1 / 2 to 2
+pub exp2_octave : {t : Float} → In binary32 (fin true 1 (pos 0)) (fin false 1 (pos 0)) t → In binary32 (fin false 1 (negsuc 0)) (fin false 1 (pos 1)) (exp2_of t)
+unfolding exp2_of power_of place_of fraction_of horner of_bits lt le eq ne fits
+exp2_octave h = exp2_in (fin false 1 (negsuc 0)) (fin false 1 (pos 1)) h tt
+
 -- from -1 / 2 to 1 / 2: from 1 / 2 to 3 / 2
 pub exp2_half : {t : Float} → In binary32 (fin true 1 (negsuc 0)) (fin false 1 (negsuc 0)) t → In binary32 (fin false 1 (negsuc 0)) (fin false 3 (negsuc 0)) (exp2_of t)
 unfolding exp2_of power_of place_of fraction_of horner of_bits lt le eq ne fits

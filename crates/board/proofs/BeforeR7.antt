@@ -1,6 +1,6 @@
 -- A step beside the one before R-7: where no oscillator 1 sounds without FM or ring in it, it answers as that one. Assumes nothing.
 use Prim.Native.Nat.{ℕ, zero, suc}
-use mathlib.Core.Path.{◌≡◌, refl, sym}
+use mathlib.Core.Path.{◌≡◌, refl, sym, subst}
 use mathlib.Core.Bool.{Bool, true, false, cond}
 use mathlib.Core.List.{List, [], ◌∷◌}
 use lib.ListN.{get_or, length}
@@ -21,8 +21,8 @@ use Rattle.bus.proofs.Fed.{Words, fed_alike, voices_fed}
 use Rattle.board.specs.declared.Analog.{Analog}
 use Rattle.board.specs.declared.Inputs.{Inputs}
 use Rattle.board.specs.declared.refusals.Refusal.{Refusal}
-use Rattle.board.specs.declared.refusals.Refusal.TheVariants.{ShortFrame, ShortParameters, DacCount, DacRange}
-use Rattle.board.specs.Board.{in_range, all_in_range, taken_of, stepped_of, refusal_of, accepted}
+use Rattle.board.specs.declared.refusals.Refusal.TheVariants.{ShortFrame, ShortParameters, DacCount}
+use Rattle.board.specs.Board.{in_range, all_in_range, inputs_ok, taken_of, stepped_of, refusal_of, accepted}
 use Rattle.board.specs.Before.{earlier_answer}
 use Rattle.board.specs.BeforeR7.{stepped_before, NonePlain}
 
@@ -42,14 +42,19 @@ words dac t = record {
 
 pub accepted_words : (f : List ℕ) (dac : List ℤ) (fx : List ℕ) (x : Inputs) → T (accepted (refusal_of f dac fx x)) → Words dac
 unfolding refusal_of
-accepted_words f dac fx x t = words dac (by (ltb (length f) FRAME_BYTES) (ltb (length fx) 24) (eqb (length dac) 16) (all_in_range dac) _ t)
+accepted_words f dac fx x t = words dac (by (all_in_range dac) (inputs_ok x) refl refl)
   where
-    by : (a b c r : Bool) (o : Option Refusal) → T (accepted (cond a (Some ShortFrame) (cond b (Some ShortParameters) (cond c (cond r o (Some DacRange)) (Some DacCount))))) → T r
-    by true b c r o t = absurd t
-    by false true c r o t = absurd t
-    by false false false r o t = absurd t
-    by false false true true o t = tt
-    by false false true false o t = absurd t
+    -- a step that one of the last two tests refuses is not accepted, whatever the first three say
+    refused : (a b c : Bool) (o : Option Refusal) → accepted o ≡ false → T (accepted (cond a (Some ShortFrame) (cond b (Some ShortParameters) (cond c o (Some DacCount))))) → ⊥
+    refused true b c o e t = t
+    refused false true c o e t = t
+    refused false false true o e t = subst T e t
+    refused false false false o e t = t
+
+    by : (r i : Bool) → all_in_range dac ≡ r → inputs_ok x ≡ i → T r
+    by true i d e = tt
+    by false true d e = absurd (refused (ltb (length f) FRAME_BYTES) (ltb (length fx) 24) (eqb (length dac) 16) _ refl (simp (d, e) at t))
+    by false false d e = absurd (refused (ltb (length f) FRAME_BYTES) (ltb (length fx) 24) (eqb (length dac) 16) _ refl (simp (d, e) at t))
 
 -- ---- the step
 rewrapped : (s e : Sources) → Beside s e → e ≡ record { duals = s.duals; hat = s.hat; toms = s.toms; cym = s.cym; w = s.w; src = e.src }

@@ -2,13 +2,14 @@
 #![tactic(auto)]
 
 ghost use Rattle.std.specs.Prelude.{◌≡◌, Bool, ℕ, ◌+◌, ◌*◌, ◌≤◌, ◌<◌, length, IfOk};
+ghost use Rattle.board.specs.Board.{answer};
 ghost use Rattle.std.specs.Float.{binary32};
 ghost use Rattle.std.specs.Float.Ieee.{of_bits};
 ghost use Rattle.recording.specs.Format.{steps_of, number_at, word_of, in_bounds, letters_ok, opening_ok, extent_of, named_to, dac_at, inputs_at};
 ghost use Rattle.recording.specs.Play.{ready_of, open_of, body_of, passed_of, unplayed_of, next_of};
 ghost use Rattle.recording.specs.Replay.{Replays, OneCall};
 
-use board::{Analog, Answer, Inputs, Refusal};
+use board::{Analog, Heard, Inputs, Refusal};
 use std::array;
 use std::num::f32_from_bits_with_nan;
 use stereo::Mix;
@@ -167,39 +168,31 @@ pub fn open(rec: &[u8]) -> Result<Playing, Refusal>
     Ok(ready(rec))
 }
 
-// The answer to the body that starts at `o`.
+// What the body that starts at `o` does to a board, which is changed in place: by value it would be copied twice more.
 #[tactic(auto, unfolding(crate::specs::Play::body_of))]
-fn body(board: Analog, rec: &[u8], o: usize) -> Answer
+fn body(board: &mut Analog, rec: &[u8], o: usize) -> Heard
     requires { o + 768 ≤ length rec.now }
-    ensures { result ≡ body_of board rec.now o }
+    ensures { answer board.new result ≡ body_of board.old rec.now o }
 {
     let words = dac(rec, o + 688);
     let x = inputs(rec, o + 752);
-    board::step(board, &rec[o..o + 664], &words, &rec[o + 664..o + 688], x)
+    board::advance(board, &rec[o..o + 664], &words, &rec[o + 664..o + 688], x)
 }
 
 // The step's answer, and the place after it.
 #[tactic(auto, unfolding(crate::specs::Play::passed_of))]
-fn passed(p: Playing, rec: &[u8], n: u32) -> Played
+fn passed(mut p: Playing, rec: &[u8], n: u32) -> Played
     requires { (p.at + 1 < 4294967296) × (extent_of p.steps n + 768 ≤ length rec.now) }
     ensures { result ≡ passed_of p (body_of p.board rec.now (extent_of p.steps n)) }
 {
-    let Answer {
-        refusal,
-        rx,
-        mix,
-        board,
-    } = body(p.board, rec, extent(p.steps, n));
+    let o = extent(p.steps, n);
+    let Heard { refusal, rx, mix } = body(&mut p.board, rec, o);
+    p.at += 1;
     Played {
         refusal,
         rx,
         mix,
-        playing: Playing {
-            board,
-            steps: p.steps,
-            bodies: p.bodies,
-            at: p.at + 1,
-        },
+        playing: p,
     }
 }
 

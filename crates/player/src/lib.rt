@@ -143,6 +143,9 @@ fn write_steps<W: Write>(start: Playing, rec: &[u8], out: &mut W) -> io::Result<
         }
         playing = played.playing;
     }
+    if page.is_empty() {
+        return Ok(());
+    }
     out.write_all(page.as_slice())
 }
 
@@ -208,6 +211,7 @@ pub fn play<R: Read, W: Write, E: Write>(
 {
     let played = replay(input, out);
     if let Err(failure) = played {
+        // the longer one has 68 bytes
         let mut message = ArrayVec::<u8, 80>::new();
         let _ = writeln!(message, "replay: {failure}");
         let _ = errors.write_all(message.as_slice());

@@ -2,6 +2,7 @@
 use Rattle.std.proofs.Common.{rules, arith, refl, sym, ap, ◌∙◌, ◌≡◌, ℕ, suc, ◌+◌, ◌-◌, ◌*◌, ◌%◌, ◌≤◌, List, ◌++◌, append_assoc, append-nil, length, subst}
 use Rattle.std.specs.Io.KnownBytes.{Appends}
 use Rattle.std.proofs.KnownBytes.{Appends-trans}
+use Rattle.std.proofs.lemmas.List.{nil_from_length}
 use Rattle.std.proofs.lemmas.Result.{on_ok_weaker}
 use Rattle.player.specs.Text.{lines_of}
 use Rattle.player.proofs.Pages.{page_written, page_kept, page_took, page_room, line_added}
@@ -34,6 +35,14 @@ loop-step-preserved g c =
       | else-step w ↦ rw w.page-is (page_room (length after) l.step w.if-step.false full)
     ] in
     (room, turned.0, turned.1, whole)
+
+pub returns-then-is_empty : goal.returns-then-is_empty
+unfolding lines_of
+returns-then-is_empty g c =
+    let (_, written, appended, split) = c.loop-step.invariant in
+    let none : c.args.start.steps - c.loop-step.step ≡ 0 = omega arith in
+    let empty = nil_from_length c.loop-step.page.items (search rules) in
+    subst (Appends _ _) (sym (append-nil written) ∙ rw (none, empty) at split) appended
 
 pub returns : goal.returns
 unfolding lines_of

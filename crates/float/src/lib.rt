@@ -161,6 +161,7 @@ pub fn from_u32(n: u32) -> f32
 }
 
 // By the plain cast where it loses nothing, as of each DAC word: the library's conversion by halves takes twice its time.
+#[tactic(auto, using(crate::proofs::Cast::in_float_lem))]
 pub fn from_i32(n: i32) -> f32
     ensures { result ≡ of_int binary32 n }
 {

@@ -28,17 +28,24 @@ pub enum Failure {
     Unwritten,
 }
 
+impl Failure {
+    #[tactic(auto, unfolding(crate::specs::Failure::message_of))]
+    fn message(self) -> &'static str
+        ensures text { result.now ≡ message_of self }
+        ensures upper_bound { length result.now ≤ 59 }
+    {
+        match self {
+            Failure::Unread => "the input cannot be read",
+            Failure::Unwritten => "the output cannot be written; what was written is not whole",
+        }
+    }
+}
+
 impl fmt::Display for Failure {
     ghost output = { λ failure. Some (message_of failure) };
 
-    #[tactic(auto, unfolding(crate::specs::Failure::message_of))]
     fn fmt<W: fmt::Write>(&self, f: &mut fmt::Formatter<W>) -> fmt::Result {
-        match self {
-            Failure::Unread => f.write_str("the input cannot be read"),
-            Failure::Unwritten => f.write_str(
-                "the output cannot be written; what was written is not whole",
-            ),
-        }
+        f.write_str(self.message())
     }
 }
 
@@ -72,6 +79,7 @@ const LINES: u32 = 93;
 const PAGE: usize = 16384;
 
 // A step's line: the step's number, the answer's number, the words.
+#[tactic(auto, unfolding(crate::specs::Text::step_line), using(std::proofs::Common::append_assoc))]
 fn step_line(out: &mut [u8], step: u32, number: u32, words: [i32; 12]) -> usize
     requires { LINE ≤ length out.old }
     ensures upper_bound { result ≤ LINE }
@@ -85,6 +93,7 @@ fn step_line(out: &mut [u8], step: u32, number: u32, words: [i32; 12]) -> usize
 }
 
 // A refusal's number, alone.
+#[tactic(auto, unfolding(crate::specs::Text::refusal_line))]
 fn refusal_line(out: &mut [u8], number: u32) -> usize
     requires { 11 ≤ length out.old }
     ensures upper_bound { result ≤ length out.old }
@@ -94,12 +103,12 @@ fn refusal_line(out: &mut [u8], number: u32) -> usize
     text::put(out, end, b'\n')
 }
 
-// A line more in a page that has room for it.
-fn append(page: &mut ArrayVec<u8, PAGE>, line: &[u8])
-    requires { array_vec_len page.old + length line.now ≤ PAGE }
-    ensures { page.new.items ≡ page.old.items ++ line.now }
+// More text in a page that has room for it.
+fn append<const N: usize>(page: &mut ArrayVec<u8, N>, text: &[u8])
+    requires { array_vec_len page.old + length text.now ≤ N }
+    ensures { page.new.items ≡ page.old.items ++ text.now }
 {
-    let _fits = page.try_extend_from_slice(line);
+    let _fits = page.try_extend_from_slice(text);
 }
 
 // What an input of more than 65,536 bytes is refused by.
@@ -211,9 +220,10 @@ pub fn play<R: Read, W: Write, E: Write>(
 {
     let played = replay(input, out);
     if let Err(failure) = played {
-        // the longer one has 68 bytes
-        let mut message = ArrayVec::<u8, 80>::new();
-        let _ = writeln!(message, "replay: {failure}");
+        let mut message = ArrayVec::<u8, 68>::new();
+        append(&mut message, b"replay: ");
+        append(&mut message, failure.message().as_bytes());
+        append(&mut message, b"\n");
         let _ = errors.write_all(message.as_slice());
     }
     played

@@ -15,6 +15,7 @@ pub fn put(out: &mut [u8], at: usize, b: u8) -> usize
 }
 
 // The decimal digits of n, at most `most` of them.
+#[tactic(auto, using(std::proofs::Common::append_assoc, crate::proofs::Joined::one_digit, crate::proofs::Joined::more_digits), unfolding(crate::specs::Text::digits_of))]
 pub fn digits(out: &mut [u8], at: usize, n: u32, most: usize) -> usize
     requires { at + most ≤ length out.old }
     ensures upper_bound { result ≤ at + most }
@@ -31,6 +32,7 @@ pub fn digits(out: &mut [u8], at: usize, n: u32, most: usize) -> usize
 }
 
 // A whole number, with its sign where it is negative.
+#[tactic(auto, using(std::proofs::Common::append_assoc, crate::proofs::Joined::with_sign_lem, crate::proofs::Joined::without_sign))]
 pub fn signed(out: &mut [u8], at: usize, w: i32) -> usize
     requires { at + 11 ≤ length out.old }
     ensures upper_bound { result ≤ at + 11 }
